@@ -1,0 +1,146 @@
+-- Laws of the function code: what is written is read back; what is read is written back, but for bit 7 of a response;
+-- exactly 120 of the 256 bytes are read.
+-- Assumes nothing.
+use Prim.Native.Nat.{ℕ, zero, suc, _+_, _%_, _<_}
+use mathlib.Core.Path.{_≡_, refl, sym, _∙_, ap}
+use mathlib.Core.Bool.{Bool, true, false}
+use native.Mathlib.Nat.{add-zero, zero-add, add-suc, suc-add, le-of-suc-le-suc, not-suc-le-zero}
+use native.Mathlib.Omega.{arith}
+use lib.Dec.{T, eqb, eqb→eq}
+use Rattle.codes.proofs.NumberLaws.{frame-count-part-small, request-number-small, state-number-small, status-number-small}
+use Rattle.codes.specs.FunctionCodes.{bit, codeByte, functionCodeOf, digit}
+use Rattle.codes.specs.Pick.{if}
+use Rattle.codes.specs.RequestTypes.{requestTypeOf}
+use Rattle.codes.specs.Responses.{stateOf, statusOf}
+use Rattle.codes.specs.declared.frame_count_bit.FrameCountBit.{FrameCountBit}
+use Rattle.codes.specs.declared.frame_count_bit.FrameCountBit.the-variants.{First, High, Low, Inactive}
+use Rattle.codes.specs.declared.function_code.FunctionCode.{FunctionCode}
+use Rattle.codes.specs.declared.function_code.FunctionCode.the-variants.{Request, Response}
+use Rattle.codes.specs.declared.function_code.FunctionCodeFound.{FunctionCodeFound}
+use Rattle.codes.specs.declared.function_code.FunctionCodeFound.the-variants.{Is, Nothing}
+use Rattle.codes.specs.declared.request_type.RequestType.{RequestType}
+use Rattle.codes.specs.declared.request_type.RequestType.the-variants.{ClockValue, TimeEvent, SdaLow, SdnLow, SdaHigh, SdnHigh, MulticastSrd, FdlStatus, SrdLow, SrdHigh, Ident, LsapStatus}
+use Rattle.codes.specs.declared.response.ResponseState.{ResponseState}
+use Rattle.codes.specs.declared.response.ResponseState.the-variants.{Slave, MasterNotReady, MasterWithoutToken, MasterInRing}
+use Rattle.codes.specs.declared.response.ResponseStatus.{ResponseStatus}
+use Rattle.codes.specs.declared.response.ResponseStatus.the-variants.{Ok, UserError, NoResources, SapNotEnabled, DataLow, NoDataReady, DataHigh, NotReceivedDataLow, NotReceivedDataHigh}
+
+every-bit : (P : FrameCountBit → Type 0) → P First → P High → P Low → P Inactive → (b : FrameCountBit) → P b
+every-bit P a b c d First = a
+every-bit P a b c d High = b
+every-bit P a b c d Low = c
+every-bit P a b c d Inactive = d
+
+every-state : (P : ResponseState → Type 0) → P Slave → P MasterNotReady → P MasterWithoutToken → P MasterInRing → (s : ResponseState) → P s
+every-state P a b c d Slave = a
+every-state P a b c d MasterNotReady = b
+every-state P a b c d MasterWithoutToken = c
+every-state P a b c d MasterInRing = d
+
+-- The statement of each law below at one code.
+Again : FunctionCode → Type 0
+Again code = functionCodeOf (codeByte code) ≡ Is code
+
+request-again : (fcb : FrameCountBit) (req : RequestType) → Again (Request fcb req)
+unfolding Again functionCodeOf codeByte requestTypeOf
+request-again fcb ClockValue = every-bit (λ b. Again (Request b ClockValue)) refl refl refl refl fcb
+request-again fcb TimeEvent = every-bit (λ b. Again (Request b TimeEvent)) refl refl refl refl fcb
+request-again fcb SdaLow = every-bit (λ b. Again (Request b SdaLow)) refl refl refl refl fcb
+request-again fcb SdnLow = every-bit (λ b. Again (Request b SdnLow)) refl refl refl refl fcb
+request-again fcb SdaHigh = every-bit (λ b. Again (Request b SdaHigh)) refl refl refl refl fcb
+request-again fcb SdnHigh = every-bit (λ b. Again (Request b SdnHigh)) refl refl refl refl fcb
+request-again fcb MulticastSrd = every-bit (λ b. Again (Request b MulticastSrd)) refl refl refl refl fcb
+request-again fcb FdlStatus = every-bit (λ b. Again (Request b FdlStatus)) refl refl refl refl fcb
+request-again fcb SrdLow = every-bit (λ b. Again (Request b SrdLow)) refl refl refl refl fcb
+request-again fcb SrdHigh = every-bit (λ b. Again (Request b SrdHigh)) refl refl refl refl fcb
+request-again fcb Ident = every-bit (λ b. Again (Request b Ident)) refl refl refl refl fcb
+request-again fcb LsapStatus = every-bit (λ b. Again (Request b LsapStatus)) refl refl refl refl fcb
+
+response-again : (state : ResponseState) (status : ResponseStatus) → Again (Response state status)
+unfolding Again functionCodeOf codeByte stateOf statusOf
+response-again state Ok = every-state (λ s. Again (Response s Ok)) refl refl refl refl state
+response-again state UserError = every-state (λ s. Again (Response s UserError)) refl refl refl refl state
+response-again state NoResources = every-state (λ s. Again (Response s NoResources)) refl refl refl refl state
+response-again state SapNotEnabled = every-state (λ s. Again (Response s SapNotEnabled)) refl refl refl refl state
+response-again state DataLow = every-state (λ s. Again (Response s DataLow)) refl refl refl refl state
+response-again state NoDataReady = every-state (λ s. Again (Response s NoDataReady)) refl refl refl refl state
+response-again state DataHigh = every-state (λ s. Again (Response s DataHigh)) refl refl refl refl state
+response-again state NotReceivedDataLow = every-state (λ s. Again (Response s NotReceivedDataLow)) refl refl refl refl state
+response-again state NotReceivedDataHigh = every-state (λ s. Again (Response s NotReceivedDataHigh)) refl refl refl refl state
+
+-- "Writing gives the same byte back": what is written is read back.
+pub read-written : (code : FunctionCode) → functionCodeOf (codeByte code) ≡ Is code
+unfolding Again
+read-written (Request fcb req) = request-again fcb req
+read-written (Response state status) = response-again state status
+
+pub code-byte-injective : (x y : FunctionCode) → codeByte x ≡ codeByte y → x ≡ y
+code-byte-injective x y e = let h : Is x ≡ Is y = sym (read-written x) ∙ ap functionCodeOf e ∙ read-written y in cc
+
+-- The byte that writing gives for what was read: the same, "except that a response loses bit 7".
+abbrev pub keptByte : ℕ → ℕ
+keptByte b = if (bit 6 b) b (b % 128)
+
+kept : ℕ → FunctionCodeFound → Bool
+kept b (Is code) = eqb (codeByte code) (keptByte b)
+kept b Nothing = true
+
+isRead : FunctionCodeFound → Bool
+isRead (Is code) = true
+isRead Nothing = false
+
+-- A test at each of n numbers from i on, and how many pass it.
+allFrom : (ℕ → Bool) → ℕ → ℕ → Bool
+allFrom f i zero = true
+allFrom f i (suc n) = if (f i) (allFrom f (suc i) n) false
+
+pub countFrom : (ℕ → Bool) → ℕ → ℕ → ℕ
+countFrom f i zero = 0
+countFrom f i (suc n) = digit (f i) + countFrom f (suc i) n
+
+first-of : (a : Bool) (rest : Bool) → T (if a rest false) → T a
+first-of true rest t = tt
+first-of false rest t = t
+
+rest-of : (a : Bool) (rest : Bool) → T (if a rest false) → T rest
+rest-of true rest t = t
+rest-of false rest t = absurd t
+
+-- A test that was computed over a range holds at each number of it.
+at-each : (f : ℕ → Bool) (i n : ℕ) → T (allFrom f i n) → (k : ℕ) → k < n → T (f (i + k))
+unfolding allFrom
+at-each f i zero t k h = absurd (not-suc-le-zero h)
+at-each f i (suc n) t zero h = rw add-zero (first-of (f i) (allFrom f (suc i) n) t)
+at-each f i (suc n) t (suc k) h =
+    rw (add-suc, ← suc-add) (at-each f (suc i) n (rest-of (f i) (allFrom f (suc i) n) t) k (le-of-suc-le-suc h))
+
+keptAt : ℕ → Bool
+keptAt b = kept b (functionCodeOf b)
+
+pub readAt : ℕ → Bool
+readAt b = isRead (functionCodeOf b)
+
+all-kept : T (allFrom keptAt 0 256)
+unfolding allFrom keptAt kept functionCodeOf codeByte requestTypeOf stateOf statusOf
+all-kept = tt
+
+kept-is : (b : ℕ) (code : FunctionCode) (found : FunctionCodeFound) → T (kept b found) → found ≡ Is code → codeByte code ≡ keptByte b
+unfolding kept
+kept-is b code (Is c) t e = let h : c ≡ code = cc in rw h at (eqb→eq (codeByte c) (keptByte b) t)
+kept-is b code Nothing t e = let z : _≡_ {A = ℕ} 0 1 = cc in absurd (omega arith)
+
+-- What is read is written back, but for bit 7 of a response.
+pub written-read : (b : ℕ) → b < 256 → (code : FunctionCode) → functionCodeOf b ≡ Is code → codeByte code ≡ keptByte b
+unfolding keptAt
+written-read b h code e = kept-is b code (functionCodeOf b) (rw zero-add at (at-each keptAt 0 256 all-kept b h)) e
+
+-- "So 120 of 256 bytes are read."
+pub exactly-120-are-read : countFrom readAt 0 256 ≡ 120
+unfolding countFrom readAt isRead functionCodeOf requestTypeOf stateOf statusOf
+exactly-120-are-read = refl
+
+-- A written function code is a byte.
+pub code-byte-small : (code : FunctionCode) → codeByte code < 256
+unfolding codeByte
+code-byte-small (Request fcb req) = omega (arith, frame-count-part-small fcb, request-number-small req)
+code-byte-small (Response state status) = omega (arith, state-number-small state, status-number-small status)

@@ -1,0 +1,4 @@
+pub mod ChecksumLaws
+pub mod FunctionCodeLaws
+pub mod NumberLaws
+pub mod PartLaws

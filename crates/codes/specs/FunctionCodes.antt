@@ -1,0 +1,60 @@
+-- Document 01, "Function code": the function code's byte, read and written.
+-- Assumes nothing.
+use Prim.Native.Nat.{ℕ, _+_, _*_, _/_, _%_, _^_}
+use mathlib.Core.Bool.{Bool, true, false}
+use lib.Dec.{eqb}
+use Rattle.codes.specs.FrameCountBits.{frameCountBitOf, fcvOf, fcbOf}
+use Rattle.codes.specs.Pick.{if}
+use Rattle.codes.specs.RequestTypes.{requestNumber, requestTypeOf}
+use Rattle.codes.specs.Responses.{stateNumber, stateOf, statusNumber, statusOf}
+use Rattle.codes.specs.declared.frame_count_bit.FrameCountBit.{FrameCountBit}
+use Rattle.codes.specs.declared.function_code.FunctionCode.{FunctionCode}
+use Rattle.codes.specs.declared.function_code.FunctionCode.the-variants.{Request, Response}
+use Rattle.codes.specs.declared.function_code.FunctionCodeFound.{FunctionCodeFound}
+use Rattle.codes.specs.declared.function_code.FunctionCodeFound.the-variants.{Is, Nothing}
+use Rattle.codes.specs.declared.request_type.RequestTypeFound.{RequestTypeFound}
+use Rattle.codes.specs.declared.request_type.RequestTypeFound.the-variants as requestFound
+use Rattle.codes.specs.declared.response.ResponseStateFound.{ResponseStateFound}
+use Rattle.codes.specs.declared.response.ResponseStateFound.the-variants as stateFound
+use Rattle.codes.specs.declared.response.ResponseStatusFound.{ResponseStatusFound}
+use Rattle.codes.specs.declared.response.ResponseStatusFound.the-variants as statusFound
+
+-- whether a bit of a byte is set, counted from 0
+abbrev pub bit : ℕ → ℕ → Bool
+bit n b = eqb (b / 2 ^ n % 2) 1
+
+-- "The byte and 8F": bit 7 and the low four bits
+abbrev pub requestBits : ℕ → ℕ
+requestBits b = b / 128 * 128 + b % 16
+
+-- a request has a type that is named; its frame count bit is any
+abbrev pub requestOf : FrameCountBit → RequestTypeFound → FunctionCodeFound
+requestOf fcb (requestFound.Is req) = Is (Request fcb req)
+requestOf fcb requestFound.Nothing = Nothing
+
+-- a response has a state and a status that are named
+abbrev pub responseOf : ResponseStateFound → ResponseStatusFound → FunctionCodeFound
+responseOf (stateFound.Is state) (statusFound.Is status) = Is (Response state status)
+responseOf (stateFound.Is state) statusFound.Nothing = Nothing
+responseOf stateFound.Nothing status = Nothing
+
+-- "Bit 6 set: request. The byte and 8F must be one of ... Bit 5 is FCB, bit 4 FCV. Bit 6 clear: response; bits 4 and 5
+-- the state 0 to 3, low four bits one of ...; bit 7 is ignored."
+unfoldable pub functionCodeOf : ℕ → FunctionCodeFound
+functionCodeOf b =
+    if (bit 6 b)
+    (requestOf (frameCountBitOf (bit 4 b) (bit 5 b)) (requestTypeOf (requestBits b)))
+    (responseOf (stateOf (b / 16 % 4)) (statusOf (b % 16)))
+
+abbrev pub digit : Bool → ℕ
+digit true = 1
+digit false = 0
+
+-- FCB at bit 5, FCV at bit 4
+abbrev pub frameCountPart : FrameCountBit → ℕ
+frameCountPart fcb = digit (fcbOf fcb) * 2 ^ 5 + digit (fcvOf fcb) * 2 ^ 4
+
+-- the byte of a function code, as the standard lays its bits out; bit 7 of a response is clear
+unfoldable pub codeByte : FunctionCode → ℕ
+codeByte (Request fcb req) = 2 ^ 6 + frameCountPart fcb + requestNumber req
+codeByte (Response state status) = stateNumber state * 2 ^ 4 + statusNumber status

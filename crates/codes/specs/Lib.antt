@@ -1,0 +1,9 @@
+pub mod Checksums
+pub mod FrameCountBits
+pub mod FunctionCodes
+pub mod Lookup
+pub mod Part
+pub mod Pick
+pub mod Refusals
+pub mod RequestTypes
+pub mod Responses

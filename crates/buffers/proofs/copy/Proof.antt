@@ -1,0 +1,46 @@
+-- `copy` meets its contract. The invariant: the buffer begins with what was copied and goes on as it was.
+-- Assumes nothing.
+use borrow.Author.Needs.{needs}
+use mathlib.Core.Path.{_≡_}
+use mathlib.Core.List.{_++_}
+use Prim.Native.Nat.{_≤_, _-_}
+use native.Mathlib.Omega.{arith}
+use lib.ListN.{length, take, drop, length-set}
+use Rattle.buffers.proofs.FrontLaws.{copy-done, copy-turn}
+use Rattle.buffers.proofs.copy.Statement.{statement}
+use Rattle.buffers.proofs.copy.Tie as tie
+
+abbrev Inv-loop : tie.InvT-loop
+Inv-loop bytes buffer₀ i₀ buffer i =
+    (i ≤ length bytes) × (buffer ≡ take i bytes ++ drop i buffer₀) × (length buffer ≡ length buffer₀)
+
+abbrev μ-loop : tie.MeasureT-loop
+μ-loop bytes buffer₀ i₀ buffer i = length bytes - i
+
+loop-again : tie.Need-loop-again Inv-loop μ-loop
+loop-again c =
+    let l = c .before .before in (
+      omega arith,
+      rw (l .loop .inv .1) (copy-turn _ _ _ (c .before .loop-test .taken) (l .before .pre)),
+      simp length-set (l .loop .inv .2),
+    )
+
+returns : tie.Need-returns Inv-loop μ-loop
+returns c =
+    let l = c .before in
+    copy-done _ _ _ _ (l .loop .inv .0) (c .loop-test .left) (l .loop .inv .1)
+
+pub copy-spec : {M : Type 1} → statement M
+copy-spec =
+    tie.close
+    (tie.spec
+    Inv-loop
+    μ-loop
+    (λ c. search needs)
+    (λ c. search needs)
+    (λ c. search needs)
+    (λ c. search needs)
+    (λ c. search needs)
+    loop-again
+    (λ c. search needs)
+    returns)

@@ -1,0 +1,5 @@
+pub mod BeginsLaws
+pub mod DecimalLaws
+pub mod PlacedLaws
+pub mod ReadingLaws
+pub mod Samples

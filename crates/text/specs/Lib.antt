@@ -1,0 +1,4 @@
+pub mod Begins
+pub mod Decimal
+pub mod Placed
+pub mod Quoted

@@ -1,0 +1,11 @@
+pub mod AgreementLaws
+pub mod Answers
+pub mod ByteLaws
+pub mod DrawnLaws
+pub mod PictureLaws
+pub mod ReadingLaws
+pub mod Samples
+pub mod Theorems
+pub mod TopBitLaws
+pub mod WrittenLaws
+pub mod WrongReaders

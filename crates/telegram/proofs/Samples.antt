@@ -1,0 +1,88 @@
+-- The samples of reading, computed on the definitions.
+-- Assumes nothing.
+use Prim.Native.Nat.{ℕ, _≤_}
+use mathlib.Core.List.{List, _∷_, _++_, append-assoc}
+use mathlib.Core.Path.{_≡_, refl, sym, _∙_, ap}
+use native.Mathlib.Omega.{arith}
+use Rattle.codes.specs.Checksums.{sumOf, checksumOf}
+use Rattle.codes.specs.FunctionCodes.{codeByte, functionCodeOf}
+use Rattle.codes.specs.Part.{byteAt}
+use Rattle.codes.specs.RequestTypes.{requestTypeOf}
+use Rattle.codes.specs.Responses.{stateOf, statusOf}
+use Rattle.telegram.proofs.DrawnLaws.{framed-then, picture-reads, standard-begins}
+use Rattle.telegram.specs.Begins.{standard, StartOf, withSD1, withSD2, withSD3, Begins}
+use Rattle.telegram.specs.Delimiters.{SD1, SD2, ED}
+use Rattle.telegram.specs.Picture.{headWith}
+use Rattle.telegram.specs.Reading.{headerAt, sapsAt, contentOf, frameOf, lengthsOf, dataOf, tokenOf, whole, readOf}
+use Rattle.telegram.specs.Samples.{ReadingSamples, Beyond, BeyondTheStandard}
+use Rattle.telegram.specs.declared.header.DataTelegramHeader.{DataTelegramHeader}
+use Rattle.telegram.specs.declared.kinds.DataTelegram.{DataTelegram}
+use Rattle.telegram.specs.declared.kinds.Telegram.the-variants.{Data}
+
+-- Document 01's samples of reading that are marked P.
+pub reading-samples : ReadingSamples
+unfolding sumOf checksumOf functionCodeOf requestTypeOf stateOf statusOf headerAt sapsAt contentOf frameOf lengthsOf dataOf tokenOf readOf
+reading-samples =
+    record {
+      order = refl;
+      lastByte17 = refl;
+      sum66 = refl;
+      saps = refl;
+      lengthsDiffer = refl;
+      tooFew = refl;
+      lengthTwo = refl;
+    }
+
+-- By the standard, an SD2 telegram's L and fourth byte lie within its bounds.
+start-bounds : {l : ℕ} {start : List ℕ} → StartOf standard l start → (q : List ℕ) → byteAt (start ++ q) 0 ≡ SD2 → (4 ≤ byteAt (start ++ q) 1) × (byteAt (start ++ q) 1 ≤ 249) × (byteAt (start ++ q) 3 ≡ SD2)
+start-bounds withSD1 q e = absurd (omega arith)
+start-bounds withSD3 q e = absurd (omega arith)
+start-bounds (withSD2 low fourth) q e = (low .0, low .1, fourth)
+
+-- And the fourth byte of an SD1 telegram is its function code's.
+start-code : {l : ℕ} {start : List ℕ} → StartOf standard l start → (h : DataTelegramHeader) (code : ℕ) (q : List ℕ) → byteAt (start ++ (headWith h code ++ q)) 0 ≡ SD1 → byteAt (start ++ (headWith h code ++ q)) 3 ≡ code
+start-code withSD1 h code q e = refl
+start-code withSD3 h code q e = absurd (omega arith)
+start-code (withSD2 low fourth) h code q e = absurd (omega arith)
+
+module _ {s : List ℕ} {d : DataTelegram} {n : ℕ} (b : Begins standard s (Data d) n) where
+  covered : List ℕ
+  covered = headWith (d .h) (b .draws .code) ++ b .draws .pdu
+
+  from-start : s ≡ b .draws .start ++ (covered ++ checksumOf covered ∷ ED ∷ b .rest)
+  unfolding covered
+  from-start = b .bytes ∙ ap (λ q. q ++ b .rest) (b .draws .drawn) ∙ framed-then (b .draws .start) (headWith (d .h) (b .draws .code) ++ b .draws .pdu) (b .rest)
+
+  sd2-bounds : byteAt s 0 ≡ SD2 → (4 ≤ byteAt s 1) × (byteAt s 1 ≤ 249) × (byteAt s 3 ≡ SD2)
+  sd2-bounds e = rw from-start (start-bounds (b .draws .startIs) (covered ++ checksumOf covered ∷ ED ∷ b .rest) (rw from-start at e))
+
+  sd1-code : byteAt s 0 ≡ SD1 → byteAt s 3 ≡ codeByte (d .h .fc)
+  unfolding covered
+  sd1-code e =
+      let q : List ℕ = b .draws .pdu ++ checksumOf covered ∷ ED ∷ b .rest in
+      let all : s ≡ b .draws .start ++ (headWith (d .h) (b .draws .code) ++ q) = from-start ∙ ap (λ l. b .draws .start ++ l) (append-assoc (headWith (d .h) (b .draws .code)) (b .draws .pdu) (checksumOf covered ∷ ED ∷ b .rest)) in
+      let code : byteAt s 3 ≡ b .draws .code = rw all (start-code (b .draws .startIs) (d .h) (b .draws .code) q (rw all at e)) in
+      code ∙ b .draws .codeIs
+
+-- What is read as a telegram that the standard does not draw there, lies beyond the standard.
+beyond : {s : List ℕ} {d : DataTelegram} {n : ℕ} → readOf s ≡ whole (Data d) n → (Begins standard s (Data d) n → ⊥) → Beyond s d n
+beyond {s} {d} {n} read none =
+    record {
+      isRead = read;
+      notDrawn = λ t m b.
+          let same : whole t m ≡ whole (Data d) n = sym (picture-reads (standard-begins b)) ∙ read in
+          let kind : t ≡ Data d = cc in
+          let total : m ≡ n = cc in
+          none (rw (kind, total) at b);
+    }
+
+-- The three points, L at both ends.
+pub beyond-the-standard : BeyondTheStandard
+unfolding sumOf checksumOf codeByte functionCodeOf requestTypeOf stateOf statusOf headerAt sapsAt contentOf frameOf lengthsOf dataOf tokenOf readOf
+beyond-the-standard =
+    record {
+      fourthByte = beyond refl (λ b. omega (arith, sd2-bounds b refl));
+      lengthThree = beyond refl (λ b. omega (arith, sd2-bounds b refl));
+      length250 = beyond refl (λ b. omega (arith, sd2-bounds b refl));
+      bit7 = beyond refl (λ b. omega (arith, sd1-code b refl));
+    }

@@ -1,0 +1,29 @@
+-- `DataTelegram::is_fdl_status_request` meets its contract: its test is that of `askedBy`, on the request's number.
+-- Assumes nothing.
+use borrow.Author.Needs.{needs}
+use borrow.Author.Tests.{eq-eqb, ne-eqb}
+use Rattle.telegram.proofs.kinds.DataTelegram.is_fdl_status_request.Statement.{statement}
+use Rattle.telegram.proofs.kinds.DataTelegram.is_fdl_status_request.Tie as tie
+
+other-request : tie.Need-returns-2
+other-request c =
+    let n = c .before .before in
+    rw (n .before .before .fc .given .1, ← n .number .ensures, ← c .before .number2 .ensures, ne-eqb _ _ (c .if1 .taken))
+
+status-request : tie.Need-returns-3
+status-request c =
+    let e = c .before in
+    let n = e .before .before in
+    rw (n .before .before .fc .given .1, ← n .number .ensures, ← e .before .number2 .ensures, eq-eqb _ _ (e .if1 .left))
+
+pub is-fdl-status-request-spec : {M : Type 1} → statement M
+is-fdl-status-request-spec =
+    tie.close
+    (tie.spec
+    (λ c. search needs)
+    (λ c. search needs)
+    (λ c. search needs)
+    (λ c κs. search needs)
+    (λ c κs. search needs)
+    other-request
+    status-request)

@@ -1,0 +1,6 @@
+pub mod Begins
+pub mod Delimiters
+pub mod Picture
+pub mod Questions
+pub mod Reading
+pub mod Samples

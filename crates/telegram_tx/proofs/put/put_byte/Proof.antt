@@ -1,0 +1,14 @@
+-- `put_byte` meets its contract: one store, and one byte added.
+-- Assumes nothing.
+use mathlib.Core.Path.{refl}
+use borrow.Author.Needs.{needs}
+use Rattle.telegram_tx.proofs.PlacingLaws.{byte-covered}
+use Rattle.telegram_tx.proofs.put.put_byte.Statement.{statement}
+use Rattle.telegram_tx.proofs.put.put_byte.Tie as tie
+
+returns : tie.Need-returns
+returns c = byte-covered _ _ _ _ (c .before .before .pre) refl (c .wrapping-add-u8 .ensures)
+
+pub put-byte-spec : {M : Type 1} → statement M
+put-byte-spec =
+    tie.close (tie.spec (λ c. search needs) (λ c. search needs) (λ c κs. search needs) (λ c. search needs) returns)

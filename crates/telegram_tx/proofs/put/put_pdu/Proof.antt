@@ -1,0 +1,26 @@
+-- `put_pdu` meets its contract: what the copying leaf leaves in the lent part stands in the buffer from the place on.
+-- Assumes nothing.
+use borrow.Author.Needs.{needs}
+use Rattle.telegram_tx.proofs.PlacingLaws.{part-placed}
+use Rattle.telegram_tx.proofs.put.put_pdu.Statement.{statement}
+use Rattle.telegram_tx.proofs.put.put_pdu.Tie as tie
+
+returns : tie.Need-returns
+returns c =
+    let copied = c .before .before .copy-sum .ensures in
+    record {
+      placed = part-placed _ _ _ _ (c .before .before .before .before .before .before .pre) (copied .1);
+      sum = copied .0;
+    }
+
+pub put-pdu-spec : {M : Type 1} → statement M
+put-pdu-spec =
+    tie.close
+    (tie.spec
+    (λ c. search needs)
+    (λ c. search needs)
+    (λ c. search needs)
+    (λ c κs. search needs)
+    (λ c. search needs)
+    (λ c. search needs)
+    returns)

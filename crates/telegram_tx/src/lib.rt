@@ -1,0 +1,12 @@
+// Writing telegrams: profirust's `TelegramTx`, into a buffer that the caller lends.
+mod put;
+mod serialize;
+pub mod tx;
+
+pub use tx::TelegramTxResponse;
+pub use tx::TelegramTxResult;
+pub use tx::send_data_telegram;
+pub use tx::send_fdl_status_request;
+pub use tx::send_fdl_status_response;
+pub use tx::send_short_confirmation;
+pub use tx::send_token_telegram;

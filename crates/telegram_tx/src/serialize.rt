@@ -1,0 +1,114 @@
+ghost use mathlib.Core.Path.{_≡_};
+ghost use mathlib.Core.List.{[], _∷_};
+ghost use Prim.Native.Nat.{_+_, _≤_};
+ghost use lib.ListN.{length};
+ghost use Rattle.codes.specs.FunctionCodes.{codeByte};
+ghost use Rattle.telegram.specs.Delimiters.{ED};
+ghost use Rattle.telegram.specs.Picture.{addressByte, sapBytes, headBytes, lengthByte, startBytes, telegramBytes};
+ghost use Rattle.telegram_tx.specs.Placing.{Placed, Covers, Writable};
+use crate::put::Place;
+use crate::put::put_address;
+use crate::put::put_byte;
+use crate::put::put_pdu;
+use crate::put::put_sap;
+use codes::consts::ED;
+use codes::consts::SD1;
+use codes::consts::SD2;
+use codes::consts::SD3;
+use telegram::DataTelegramHeader;
+use telegram::SapOption;
+
+fn sap_length(sap: SapOption) -> usize
+    ensures { λ r. ⌜ (r ≡ length (sapBytes sap)) × (r ≤ 1) ⌝ }
+{
+    match sap {
+        SapOption::Some(_) => 1,
+        SapOption::None => 0,
+    }
+}
+
+pub fn length_byte(header: DataTelegramHeader, pdu: &[u8]) -> usize
+    ensures { λ r. ⌜ r ≡ lengthByte header (now (pdu .entry)) ⌝ }
+{
+    let dsap = header.dsap;
+    let ssap = header.ssap;
+    pdu.len() + sap_length(dsap) + sap_length(ssap) + 3
+}
+
+// The length of a whole telegram: its start, what the length byte counts, the checksum and the end delimiter.
+pub fn total_length(l: usize) -> usize
+    requires { ⌜ l ≤ 249 ⌝ }
+    ensures { λ r. ⌜ r ≡ length (startBytes l) + l + 2 ⌝ }
+{
+    match l {
+        3 => 6,
+        11 => 14,
+        _ => l + 6,
+    }
+}
+
+fn put_start(buf: &mut [u8], l: u8) -> usize
+    requires { ⌜ 4 ≤ length (now buf) ⌝ }
+    ensures { λ r. ⌜ Placed (now (buf .entry)) 0 (startBytes l) r (now (buf .exit)) ⌝ }
+{
+    // no PDU
+    if l == 3 {
+        buf[0] = SD1;
+        return 1;
+    }
+    // exactly 8 bytes of content
+    if l == 11 {
+        buf[0] = SD3;
+        return 1;
+    }
+    buf[0] = SD2;
+    buf[1] = l;
+    buf[2] = l;
+    buf[3] = SD2;
+    4
+}
+
+// da, sa and fc.
+fn put_fixed(buf: &mut [u8], place: Place, header: DataTelegramHeader) -> Place
+    requires { ⌜ (header .da .0 ≤ 127) × (header .sa .0 ≤ 127) × (place .at + 3 ≤ length (now buf)) ⌝ }
+    ensures { λ r. ⌜ Covers (now (buf .entry)) place (addressByte (header .da .0) (header .dsap) ∷ addressByte (header .sa .0) (header .ssap) ∷ codeByte (header .fc) ∷ []) r (now (buf .exit)) ⌝ }
+{
+    let dsap = header.dsap;
+    let ssap = header.ssap;
+    let fc = header.fc;
+    let after_da = put_address(buf, place, header.da, dsap);
+    let after_sa = put_address(buf, after_da, header.sa, ssap);
+    put_byte(buf, after_sa, fc.to_byte())
+}
+
+fn put_head(buf: &mut [u8], place: Place, header: DataTelegramHeader) -> Place
+    requires { ⌜ (header .da .0 ≤ 127) × (header .sa .0 ≤ 127) × (place .at + length (headBytes header) ≤ length (now buf)) ⌝ }
+    ensures { λ r. ⌜ Covers (now (buf .entry)) place (headBytes header) r (now (buf .exit)) ⌝ }
+{
+    let dsap = header.dsap;
+    let ssap = header.ssap;
+    let after_fc = put_fixed(buf, place, header);
+    let after_dsap = put_sap(buf, after_fc, dsap);
+    put_sap(buf, after_dsap, ssap)
+}
+
+fn put_end(buf: &mut [u8], place: Place) -> usize
+    requires { ⌜ place .at + 2 ≤ length (now buf) ⌝ }
+    ensures { λ r. ⌜ Placed (now (buf .entry)) (place .at) (place .sum ∷ ED ∷ []) r (now (buf .exit)) ⌝ }
+{
+    let at = place.at;
+    buf[at] = place.sum;
+    buf[at + 1] = ED;
+    at + 2
+}
+
+// Writes a data telegram with length byte l at the buffer's front, and gives its length.
+pub fn serialize(header: DataTelegramHeader, pdu: &[u8], l: u8, buf: &mut [u8]) -> usize
+    requires { ⌜ Writable header (now pdu) l (length (now buf)) ⌝ }
+    ensures { λ r. ⌜ Placed (now (buf .entry)) 0 (telegramBytes header (now (pdu .entry))) r (now (buf .exit)) ⌝ }
+{
+    let at = put_start(buf, l);
+    let after_head = put_head(buf, Place { at, sum: 0 }, header);
+    let after_pdu = put_pdu(buf, after_head, pdu);
+    put_end(buf, after_pdu)
+}

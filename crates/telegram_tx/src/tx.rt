@@ -1,0 +1,174 @@
+ghost use mathlib.Core.Path.{_≡_};
+ghost use mathlib.Core.List.{[]};
+ghost use Prim.Native.Nat.{_≤_};
+ghost use lib.ListN.{length};
+ghost use Rattle.telegram_tx.specs.Writing.{shownWriting, replyOf, writeOf, bufferOf, writeTokenOf, tokenBufferOf, writeConfirmationOf, confirmationBufferOf, plainHeader, statusRequest, statusResponse};
+use crate::serialize::length_byte;
+use crate::serialize::serialize;
+use crate::serialize::total_length;
+use codes::Address;
+use codes::FrameCountBit;
+use codes::FunctionCode;
+use codes::Refusal;
+use codes::RequestType;
+use codes::ResponseState;
+use codes::ResponseStatus;
+use codes::consts::SC;
+use codes::consts::SD4;
+use telegram::AddressOption;
+use telegram::DataTelegramHeader;
+use telegram::SapOption;
+
+// What was written: how many bytes, and who is to answer.
+pub struct TelegramTxResponse {
+    bytes_sent: usize,
+    // the station that a reply is expected from
+    expects_reply: AddressOption,
+}
+
+impl TelegramTxResponse {
+    pub fn new(bytes_sent: usize, expects_reply: AddressOption) -> TelegramTxResponse
+        ensures { λ r. ⌜ r ≡ record { «bytes_sent» = «bytes_sent»; «expects_reply» = «expects_reply» } ⌝ }
+    {
+        TelegramTxResponse {
+            bytes_sent,
+            expects_reply,
+        }
+    }
+
+    pub fn bytes_sent(self) -> usize
+        ensures { λ r. ⌜ r ≡ self .«bytes_sent» ⌝ }
+    {
+        self.bytes_sent
+    }
+
+    pub fn expects_reply(self) -> AddressOption
+        ensures { λ r. ⌜ r ≡ self .«expects_reply» ⌝ }
+    {
+        self.expects_reply
+    }
+}
+
+// What was written, or a refusal of 8, 9 or 10. (The Rust panics where this refuses.)
+pub enum TelegramTxResult {
+    Sent(TelegramTxResponse),
+    Refused(Refusal),
+}
+
+fn reply_of(da: Address, fc: FunctionCode) -> AddressOption
+    ensures { λ r. ⌜ r ≡ replyOf da fc ⌝ }
+{
+    match fc {
+        FunctionCode::Request { fcb: _, req } => {
+            if req.expects_reply() {
+                AddressOption::Some(da)
+            } else {
+                AddressOption::None
+            }
+        }
+        FunctionCode::Response {
+            state: _,
+            status: _,
+        } => AddressOption::None,
+    }
+}
+
+// A data telegram whose addresses are fit for it.
+fn send_addressed(header: DataTelegramHeader, pdu: &[u8], buf: &mut [u8]) -> TelegramTxResult
+    requires { ⌜ (header .da .0 ≤ 127) × (header .sa .0 ≤ 127) ⌝ }
+    ensures { λ r. ⌜ (shownWriting r ≡ writeOf header (now (pdu .entry)) (length (now (buf .entry)))) × (now (buf .exit) ≡ bufferOf header (now (pdu .entry)) (now (buf .entry))) ⌝ }
+{
+    let l = length_byte(header, pdu);
+    if 249 < l {
+        return TelegramTxResult::Refused(Refusal::TooLong);
+    }
+    if buf.len() < total_length(l) {
+        return TelegramTxResult::Refused(Refusal::NoRoom);
+    }
+    let bytes_sent = serialize(header, pdu, l as u8, buf);
+    let replier = header.da;
+    let fc = header.fc;
+    let expects_reply = reply_of(replier, fc);
+    TelegramTxResult::Sent(TelegramTxResponse::new(bytes_sent, expects_reply))
+}
+
+// The PDU goes straight into the buffer behind the header: the Rust's closure becomes its bytes.
+pub fn send_data_telegram(
+    header: DataTelegramHeader,
+    pdu: &[u8],
+    buf: &mut [u8],
+) -> TelegramTxResult
+    ensures { λ r. ⌜ (shownWriting r ≡ writeOf header (now (pdu .entry)) (length (now (buf .entry)))) × (now (buf .exit) ≡ bufferOf header (now (pdu .entry)) (now (buf .entry))) ⌝ }
+{
+    let da = header.da;
+    let sa = header.sa;
+    if 127 < da.0 {
+        return TelegramTxResult::Refused(Refusal::AddressTooLarge);
+    }
+    if 127 < sa.0 {
+        return TelegramTxResult::Refused(Refusal::AddressTooLarge);
+    }
+    send_addressed(header, pdu, buf)
+}
+
+// Whole bytes: a token's addresses are not tested.
+pub fn send_token_telegram(da: Address, sa: Address, buf: &mut [u8]) -> TelegramTxResult
+    ensures { λ r. ⌜ (shownWriting r ≡ writeTokenOf da sa (length (now (buf .entry)))) × (now (buf .exit) ≡ tokenBufferOf da sa (now (buf .entry))) ⌝ }
+{
+    if buf.len() < 3 {
+        return TelegramTxResult::Refused(Refusal::NoRoom);
+    }
+    buf[0] = SD4;
+    buf[1] = da.0;
+    buf[2] = sa.0;
+    TelegramTxResult::Sent(TelegramTxResponse::new(3, AddressOption::None))
+}
+
+pub fn send_short_confirmation(buf: &mut [u8]) -> TelegramTxResult
+    ensures { λ r. ⌜ (shownWriting r ≡ writeConfirmationOf (length (now (buf .entry)))) × (now (buf .exit) ≡ confirmationBufferOf (now (buf .entry))) ⌝ }
+{
+    if buf.len() < 1 {
+        return TelegramTxResult::Refused(Refusal::NoRoom);
+    }
+    buf[0] = SC;
+    TelegramTxResult::Sent(TelegramTxResponse::new(1, AddressOption::None))
+}
+
+// A data telegram without SAPs and PDU.
+fn send_plain(da: Address, sa: Address, fc: FunctionCode, buf: &mut [u8]) -> TelegramTxResult
+    ensures { λ r. ⌜ (shownWriting r ≡ writeOf (plainHeader da sa fc) [] (length (now (buf .entry)))) × (now (buf .exit) ≡ bufferOf (plainHeader da sa fc) [] (now (buf .entry))) ⌝ }
+{
+    let dsap = SapOption::None;
+    let ssap = SapOption::None;
+    let header = DataTelegramHeader {
+        da,
+        sa,
+        dsap,
+        ssap,
+        fc,
+    };
+    send_data_telegram(header, b"", buf)
+}
+
+pub fn send_fdl_status_request(da: Address, sa: Address, buf: &mut [u8]) -> TelegramTxResult
+    ensures { λ r. ⌜ (shownWriting r ≡ writeOf (statusRequest da sa) [] (length (now (buf .entry)))) × (now (buf .exit) ≡ bufferOf (statusRequest da sa) [] (now (buf .entry))) ⌝ }
+{
+    let request = FunctionCode::Request {
+        fcb: FrameCountBit::Inactive,
+        req: RequestType::FdlStatus,
+    };
+    send_plain(da, sa, request, buf)
+}
+
+pub fn send_fdl_status_response(
+    da: Address,
+    sa: Address,
+    state: ResponseState,
+    status: ResponseStatus,
+    buf: &mut [u8],
+) -> TelegramTxResult
+    ensures { λ r. ⌜ (shownWriting r ≡ writeOf (statusResponse da sa state status) [] (length (now (buf .entry)))) × (now (buf .exit) ≡ bufferOf (statusResponse da sa state status) [] (now (buf .entry))) ⌝ }
+{
+    let response = FunctionCode::Response { state, status };
+    send_plain(da, sa, response, buf)
+}

@@ -1,0 +1,21 @@
+-- `discovered` meets its contract: each call gives what its promise says of the list before it.
+-- Assumes nothing.
+use mathlib.Core.Path.{ap, _∙_}
+use borrow.Author.Needs.{needs}
+use Rattle.token_ring.specs.Rules.{made, witnessed}
+use Rattle.ring_demo.proofs.discovered.Statement.{statement}
+use Rattle.ring_demo.proofs.discovered.Tie as tie
+
+returns : tie.Need-returns
+unfolding made
+returns c =
+    c .witness-token-pass4 .ensures
+    ∙ ap (witnessed 9 2) (c .before .witness-token-pass3 .ensures
+    ∙ ap (witnessed 5 9) (c .before .before .witness-token-pass2 .ensures
+    ∙ ap (witnessed 2 5) (c .before .before .before .witness-token-pass .ensures
+    ∙ ap (witnessed 9 2) (c .before .before .before .before .before .new .ensures .ring))))
+
+pub discovered-spec : {M : Type 1} → statement M
+discovered-spec =
+    tie.close
+    (tie.spec (λ c κs. search needs) (λ c κs. search needs) (λ c κs. search needs) (λ c κs. search needs) (λ c κs. search needs) returns)

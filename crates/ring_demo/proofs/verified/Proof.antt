@@ -1,0 +1,16 @@
+-- `verified` meets its contract: each call gives what its promise says of the list before it.
+-- Assumes nothing.
+use mathlib.Core.Path.{ap, _∙_}
+use borrow.Author.Needs.{needs}
+use Rattle.token_ring.specs.Rules.{witnessed}
+use Rattle.ring_demo.proofs.verified.Statement.{statement}
+use Rattle.ring_demo.proofs.verified.Tie as tie
+
+returns : tie.Need-returns
+returns c =
+    c .witness-token-pass3 .ensures
+    ∙ ap (witnessed 9 2) (c .before .witness-token-pass2 .ensures
+    ∙ ap (witnessed 5 9) (c .before .before .witness-token-pass .ensures))
+
+pub verified-spec : {M : Type 1} → statement M
+verified-spec = tie.close (tie.spec (λ c κs. search needs) (λ c κs. search needs) (λ c κs. search needs) returns)

@@ -1,0 +1,76 @@
+// A caller of the station list, with a list in a local of its own: document 01's first sample, played, checked and printed. What is checked
+// is proved from the promises of the calls alone.
+use codes::Address;
+use libc::STDOUT_FILENO;
+use token_ring::Found;
+use token_ring::TokenRing;
+ghost use mathlib.Core.List.{[], _∷_};
+ghost use mathlib.Core.Path.{_≡_};
+ghost use Rattle.token_ring.specs.Samples.{_to_, after, seven};
+
+// Own 7: 9-2, 2-5, 5-9, 9-2.
+fn discovered() -> TokenRing
+    ensures { λ r. ⌜ r ≡ seven ⌝ }
+{
+    let made = TokenRing::new(Address(7));
+    let mut ring = made.ring;
+    ring = ring.witness_token_pass(Address(9), Address(2));
+    ring = ring.witness_token_pass(Address(2), Address(5));
+    ring = ring.witness_token_pass(Address(5), Address(9));
+    ring.witness_token_pass(Address(9), Address(2))
+}
+
+// The same passes once more.
+fn verified(mut ring: TokenRing) -> TokenRing
+    ensures { λ r. ⌜ r ≡ after (2 to 5 ∷ 5 to 9 ∷ 9 to 2 ∷ []) ring ⌝ }
+{
+    ring = ring.witness_token_pass(Address(2), Address(5));
+    ring = ring.witness_token_pass(Address(5), Address(9));
+    ring.witness_token_pass(Address(9), Address(2))
+}
+
+fn check_neighbours(ring: TokenRing)
+    requires { ⌜ ring ≡ seven ⌝ }
+{
+    let next = ring.next_station();
+    check::expect(next.0 == 9);
+    let previous = ring.previous_station();
+    check::expect(previous.0 == 5);
+    check::expect(!ring.ready_for_ring());
+}
+
+fn check_refusal(ring: TokenRing) {
+    let changed = ring.remove_station(Address(126));
+    let answer = changed.answer;
+    check::expect(answer.number() == 11);
+}
+
+fn print_station(address: u8) {
+    io::print_decimal(STDOUT_FILENO, address as u64);
+    io::write_all(STDOUT_FILENO, b"\n");
+}
+
+fn print_stations(ring: TokenRing) {
+    let mut from: u8 = 0;
+    loop {
+        let found = ring.first_active_from(Address(from));
+        let Found::Station(station) = found else {
+            return;
+        };
+        let at = station.0;
+        print_station(at);
+        if 125 < at {
+            return;
+        }
+        from = at + 1;
+    }
+}
+
+fn main() {
+    let ring = discovered();
+    check_neighbours(ring);
+    check_refusal(ring);
+    let valid = verified(ring);
+    check::expect(valid.ready_for_ring());
+    print_stations(valid);
+}

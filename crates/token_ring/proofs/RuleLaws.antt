@@ -1,0 +1,168 @@
+-- Laws of the rules, in the order in which the code tests.
+-- Assumes nothing.
+use mathlib.Core.Bool.{Bool, true, false, _&&_}
+use mathlib.Core.List.{List}
+use mathlib.Core.Logic.{_⊎_, inl, inr, by-cases}
+use mathlib.Core.Option.{Option, none, some}
+use mathlib.Core.Path.{_≡_, refl, sym, _∙_}
+use Prim.Native.Nat.{ℕ, suc, _+_, _≤_, _<_}
+use native.Mathlib.Decide.{decLt}
+use native.Mathlib.Numerals.{add-one}
+use native.Mathlib.Omega.{arith}
+use borrow.Author.Tests.{le-leb, lt-leb, le-ltb, lt-ltb}
+use lib.ListN.{length, length-set}
+use Rattle.codes.specs.Pick.{if}
+use Rattle.codes.specs.declared.address.Address.{Address}
+use Rattle.token_ring.specs.declared.ring.Found.{Found}
+use Rattle.token_ring.specs.declared.ring.Heard.{Heard}
+use Rattle.token_ring.specs.declared.ring.TokenRing.{TokenRing}
+use Rattle.token_ring.specs.Flags.{active, cleared, quiet, lowestFrom, highestBelow, shownFound}
+use Rattle.token_ring.specs.Rules.{wrap, swept, passed, orElse, nextOf, previousOf, holds, Effect, effectOf, effected, inPhase, withFlags, updated, witnessed}
+use Rattle.token_ring.specs.Leaves.{Hears, nextStart}
+use Rattle.token_ring.proofs.FlagLaws.{isNone, length-cleared, quiet-lowest}
+
+-- ---- update
+
+pub swept-rise : (sa da : ℕ) (l : List Bool) → sa < da → swept sa da l ≡ cleared sa da l
+unfolding swept
+swept-rise sa da l h = rw (lt-leb da sa h)
+
+pub swept-wrap : (sa da : ℕ) (l : List Bool) → da ≤ sa → swept sa da l ≡ cleared 0 da (cleared sa 128 l)
+unfolding swept
+swept-wrap sa da l h = rw (le-leb da sa h)
+
+length-if : (b : Bool) (x y : List Bool) (n : ℕ) → length x ≡ n → length y ≡ n → length (if b x y) ≡ n
+length-if true x y n h k = h
+length-if false x y n h k = k
+
+pub length-swept : (sa da : ℕ) (l : List Bool) → length (swept sa da l) ≡ length l
+unfolding swept
+length-swept sa da l =
+    length-if (wrap sa da) (cleared 0 da (cleared sa 128 l)) (cleared sa da l) (length l)
+    (length-cleared 0 da (cleared sa 128 l) ∙ length-cleared sa 128 l)
+    (length-cleared sa da l)
+
+pub length-passed : (sa da : ℕ) (l : List Bool) → length (passed sa da l) ≡ length l
+unfolding passed
+length-passed sa da l = length-set (swept sa da l) sa true ∙ length-swept sa da l
+
+-- ---- whether a pass holds
+
+module _ (sa da : ℕ) (l : List Bool) where
+  pub holds-no-sa : active l sa ≡ false → holds sa da l ≡ false
+  unfolding holds
+  holds-no-sa e = rw e
+
+  module _ (e : active l sa ≡ true) where
+    pub holds-no-da : active l da ≡ false → holds sa da l ≡ false
+    unfolding holds
+    holds-no-da f = rw (e, f)
+
+    module _ (f : active l da ≡ true) where
+      pub holds-rise : sa < da → holds sa da l ≡ quiet (sa + 1) da l
+      unfolding holds
+      holds-rise h = rw (e, f, lt-leb da sa h, add-one)
+
+      pub holds-wrap : da ≤ sa → holds sa da l ≡ (quiet (sa + 1) 128 l && quiet 0 da l)
+      unfolding holds
+      holds-wrap h = rw (e, f, le-leb da sa h, add-one)
+
+-- ---- next
+
+next-of-start : (b : Bool) (o : Option ℕ) (o₀ : Option ℕ) (own : ℕ) → b ≡ isNone o → orElse (if b o₀ o) own ≡ orElse o (orElse o₀ own)
+next-of-start true none o₀ own e = refl
+next-of-start false (some a) o₀ own e = refl
+next-of-start false none o₀ own e = let z : _≡_ {A = ℕ} 0 1 = cc in omega arith
+next-of-start true (some a) o₀ own e = let z : _≡_ {A = ℕ} 0 1 = cc in omega arith
+
+lowest-if : (b : Bool) (x y : ℕ) (l : List Bool) → lowestFrom (if b x y) l ≡ if b (lowestFrom x l) (lowestFrom y l)
+lowest-if true x y l = refl
+lowest-if false x y l = refl
+
+-- the search that the code makes
+pub next-found : (own : ℕ) (l : List Bool) → length l ≡ 128 → orElse (lowestFrom (nextStart own l) l) own ≡ nextOf own l
+unfolding nextOf
+next-found own l h =
+    rw (lowest-if (quiet (suc own) 128 l) 0 (suc own) l)
+    (next-of-start _ _ _ own (quiet-lowest (suc own) 128 l (omega arith)))
+
+-- the answer of that search
+pub next-of-search : (own start : ℕ) (l : List Bool) (f : Found) → start ≡ nextStart own l → length l ≡ 128 → shownFound f ≡ lowestFrom start l
+    → orElse (shownFound f) own ≡ nextOf own l
+next-of-search own start l f e h k = rw (k, e) (next-found own l h)
+
+pub next-start-round : (own : ℕ) (l : List Bool) → quiet (own + 1) 128 l ≡ true → nextStart own l ≡ 0
+next-start-round own l e = rw (rw add-one at e)
+
+pub next-start-above : (own : ℕ) (l : List Bool) → quiet (own + 1) 128 l ≡ false → nextStart own l ≡ own + 1
+next-start-above own l e = rw (rw add-one at e, add-one)
+
+-- ---- previous
+
+module _ (own : ℕ) (l : List Bool) where
+  pub previous-below : (a : ℕ) → highestBelow own l ≡ some a → previousOf own l ≡ a
+  unfolding previousOf
+  previous-below a e = rw e
+
+  pub previous-round : (a : ℕ) → highestBelow own l ≡ none → highestBelow 128 l ≡ some a → previousOf own l ≡ a
+  unfolding previousOf
+  previous-round a e f = rw (e, f)
+
+  pub previous-none : highestBelow own l ≡ none → highestBelow 128 l ≡ none → previousOf own l ≡ own
+  unfolding previousOf
+  previous-none e f = rw (e, f)
+
+-- ---- a witnessed pass
+
+pub witnessed-sa : (sa da : ℕ) (r : TokenRing) → 125 < sa → witnessed sa da r ≡ r
+unfolding witnessed
+witnessed-sa sa da r h = rw (lt-ltb 125 sa h)
+
+pub witnessed-da : (sa da : ℕ) (r : TokenRing) → sa ≤ 125 → 125 < da → witnessed sa da r ≡ r
+unfolding witnessed
+witnessed-da sa da r h k = rw (le-ltb 125 sa h, lt-ltb 125 da k)
+
+-- a pass with either address above 125 changes nothing
+pub witnessed-ignored : (sa da : ℕ) (r : TokenRing) → (125 < sa) ⊎ (125 < da) → witnessed sa da r ≡ r
+witnessed-ignored sa da r (inl h) = witnessed-sa sa da r h
+witnessed-ignored sa da r (inr k) =
+    by-cases (decLt 125 sa) (λ h. witnessed-sa sa da r h) (λ h. witnessed-da sa da r (omega arith) k)
+
+-- any other pass has the effect of its phase
+pub witnessed-effect : (sa da : ℕ) (r : TokenRing) → sa ≤ 125 → da ≤ 125
+    → witnessed sa da r ≡ effected (effectOf (r .«las_state») sa da (r .«active_stations»)) sa da r
+unfolding witnessed
+witnessed-effect sa da r h k = rw (le-ltb 125 sa h, le-ltb 125 da k)
+
+-- what the code puts together where it has heard an effect
+module _ (e : Effect) (sa da : ℕ) (r : TokenRing) (h : Heard) (exit : List Bool) (k : Hears e sa da (r .«active_stations») h exit) where
+  pub length-heard : length exit ≡ length (r .«active_stations»)
+  length-heard = rw (k .flags) (length-if (e .update) _ _ _ (length-passed sa da (r .«active_stations»)) refl)
+
+  abbrev put-together : Address → Address → TokenRing
+  put-together next previous =
+      record {
+        «active_stations» = exit;
+        «las_state» = h .state;
+        «this_station» = r .«this_station»;
+        «next_station» = next;
+        «previous_station» = previous;
+      }
+
+  pub effected-updated : (next previous : Address) → h .updated ≡ true
+      → next .0 ≡ nextOf (r .«this_station» .0) exit → previous .0 ≡ previousOf (r .«this_station» .0) exit
+      → put-together next previous ≡ effected e sa da r
+  unfolding effected inPhase updated withFlags
+  effected-updated next previous u n p =
+      let t : e .update ≡ true = sym (k .updated) ∙ u in
+      let f : exit ≡ passed sa da (r .«active_stations») = k .flags ∙ rw t in
+      rw (t, ← f, ← n, ← p, k .state)
+
+  pub effected-same : (next previous : Address) → h .updated ≡ false
+      → next ≡ r .«next_station» → previous ≡ r .«previous_station»
+      → put-together next previous ≡ effected e sa da r
+  unfolding effected inPhase
+  effected-same next previous u n p =
+      let t : e .update ≡ false = sym (k .updated) ∙ u in
+      let f : exit ≡ r .«active_stations» = k .flags ∙ rw t in
+      rw (t, f, n, p, k .state)

@@ -1,0 +1,152 @@
+-- What every list has that the calls make: it holds of the list as it is made, and each call keeps it.
+-- Assumes nothing.
+use mathlib.Core.Bool.{Bool, true, false}
+use mathlib.Core.List.{List}
+use mathlib.Core.Logic.{_⊎_, ⊎-elim, by-cases}
+use mathlib.Core.Path.{_≡_, refl, sym, _∙_}
+use Prim.Native.Nat.{ℕ, _≤_, _<_}
+use native.Mathlib.Decide.{decLt}
+use native.Mathlib.Omega.{arith}
+use borrow.Author.Tests.{lt-ltb, le-ltb}
+use lib.ListN.{length, set, replicate, length-set, length-replicate, getD-replicate, List·getD-eq-default}
+use lib.Seq.{getD-set-other}
+use Rattle.codes.specs.Pick.{if}
+use Rattle.token_ring.specs.declared.las_state.LasState.{LasState}
+use Rattle.token_ring.specs.declared.ring.TokenRing.{TokenRing}
+use Rattle.token_ring.specs.Flags.{active}
+use Rattle.token_ring.specs.Rules.{swept, passed, fresh, made, inPhase, withFlags, updated, Effect, effected, witnessed, claimed, nextSet, removed}
+use Rattle.token_ring.specs.Meaning.{Active, NoneBetween, inGap, Reached, by-new, by-witness, by-claim, by-set-next, by-remove, Sound}
+use Rattle.token_ring.proofs.FlagLaws.{if-same}
+use Rattle.token_ring.proofs.RuleLaws.{length-passed, witnessed-sa, witnessed-da, witnessed-effect}
+use Rattle.token_ring.proofs.Sets.{both}
+use Rattle.token_ring.proofs.Neighbours.{next-active, next-clear, previous-active, previous-clear}
+use Rattle.token_ring.proofs.ByIndex.{swept-at}
+
+-- no flag above 125 is set
+abbrev Low : List Bool → Type 0
+Low l = (a : ℕ) → 125 < a → active l a ≡ false
+
+-- ---- the changes of the flags
+
+low-set : (l : List Bool) (b : ℕ) (x : Bool) → b ≤ 125 → Low l → Low (set l b x)
+low-set l b x h low a k = getD-set-other l b a x false (λ e. omega arith) ∙ low a k
+
+low-passed : (sa da : ℕ) (l : List Bool) → sa ≤ 125 → Low l → Low (passed sa da l)
+unfolding passed
+low-passed sa da l h low = low-set (swept sa da l) sa true h (λ a k. swept-at sa da l a ∙ rw (low a k) (if-same (inGap sa da a) false))
+
+-- ---- the list as it is made
+
+clear-at : (a : ℕ) → active (replicate 128 false) a ≡ false
+clear-at a =
+    by-cases (decLt a 128)
+    (λ h. getD-replicate 128 a false false h)
+    (λ h. let k : length (replicate 128 false) ≤ a = rw (length-replicate 128 false) (omega arith) in List·getD-eq-default (replicate 128 false) false k)
+
+only-own : (own a : ℕ) → Active (set (replicate 128 false) own true) a → a ≡ own
+only-own own a e =
+    by-cases (decLt a own)
+    (λ h. both e (getD-set-other (replicate 128 false) own a true false (λ f. omega arith) ∙ clear-at a))
+    (λ h. by-cases (decLt own a)
+    (λ k. both e (getD-set-other (replicate 128 false) own a true false (λ f. omega arith) ∙ clear-at a))
+    (λ k. omega arith))
+
+pub sound-fresh : (own : ℕ) → own ≤ 125 → Sound (fresh own)
+unfolding fresh
+sound-fresh own h =
+    let flags = set (replicate 128 false) own true in
+    let size : length flags ≡ 128 = length-set (replicate 128 false) own true ∙ length-replicate 128 false in
+    record {
+      size = size;
+      high = low-set (replicate 128 false) own true h (λ a k. clear-at a);
+      own = h;
+      next = sym (⊎-elim (only-own own _) (λ e. e) (next-active own flags));
+      previous = sym (⊎-elim (only-own own _) (λ e. e) (previous-active own flags size));
+    }
+
+sound-if : {x y : TokenRing} (t : Bool) → Sound x → Sound y → Sound (if t x y)
+sound-if true p q = p
+sound-if false p q = q
+
+-- ---- what each call does
+
+module _ {r : TokenRing} (s : Sound r) where
+  pub sound-inPhase : (phase : LasState) → Sound (inPhase phase r)
+  unfolding inPhase
+  sound-inPhase phase = record { size = s .size; high = s .high; own = s .own; next = s .next; previous = s .previous }
+
+  sound-withFlags : (l : List Bool) → length l ≡ 128 → Low l → Sound (withFlags l r)
+  unfolding withFlags
+  sound-withFlags l size low = record { size = size; high = low; own = s .own; next = refl; previous = refl }
+
+  sound-passed : (sa da : ℕ) (l : List Bool) → sa ≤ 125 → length l ≡ 128 → Low l → Sound (withFlags (passed sa da l) r)
+  sound-passed sa da l h size low = sound-withFlags (passed sa da l) (length-passed sa da l ∙ size) (low-passed sa da l h low)
+
+  pub sound-updated : (sa da : ℕ) → sa ≤ 125 → Sound (updated sa da r)
+  unfolding updated
+  sound-updated sa da h = sound-passed sa da (r .«active_stations») h (s .size) (s .high)
+
+  pub sound-set-next : (a : ℕ) → Sound (nextSet a r)
+  unfolding nextSet
+  sound-set-next a =
+      by-cases (decLt 125 a)
+      (λ h. rw (lt-ltb 125 a h) s)
+      (λ h. let k : a ≤ 125 = omega arith in
+      rw (le-ltb 125 a k)
+      (sound-passed (r .«this_station» .0) a (set (r .«active_stations») a true) (s .own) (length-set (r .«active_stations») a true ∙ s .size)
+      (low-set (r .«active_stations») a true k (s .high))))
+
+  pub sound-remove : (a : ℕ) → Sound (removed a r)
+  unfolding removed
+  sound-remove a =
+      by-cases (decLt 125 a)
+      (λ h. rw (lt-ltb 125 a h) s)
+      (λ h. let k : a ≤ 125 = omega arith in
+      rw (le-ltb 125 a k) (sound-withFlags (set (r .«active_stations») a false) (length-set (r .«active_stations») a false ∙ s .size)
+      (low-set (r .«active_stations») a false k (s .high))))
+
+module _ {r : TokenRing} (s : Sound r) where
+  sound-effected : (e : Effect) (sa da : ℕ) → sa ≤ 125 → Sound (effected e sa da r)
+  unfolding effected
+  sound-effected e sa da h = sound-inPhase (sound-if (e .update) (sound-updated s sa da h) s) (e .phase)
+
+  pub sound-witness : (sa da : ℕ) → Sound (witnessed sa da r)
+  sound-witness sa da =
+      by-cases (decLt 125 sa)
+      (λ h. rw (witnessed-sa sa da r h) s)
+      (λ h. by-cases (decLt 125 da)
+      (λ k. rw (witnessed-da sa da r (omega arith) k) s)
+      (λ k. rw (witnessed-effect sa da r (omega arith) (omega arith)) (sound-effected _ sa da (omega arith))))
+
+  pub sound-claim : Sound (claimed r)
+  sound-claim = sound-inPhase s _
+
+pub sound-new : (own : ℕ) → Sound (made own)
+unfolding made
+sound-new own =
+    by-cases (decLt 125 own)
+    (λ h. rw (lt-ltb 125 own h) (sound-fresh 0 (omega arith)))
+    (λ h. let k : own ≤ 125 = omega arith in rw (le-ltb 125 own k) (sound-fresh own k))
+
+-- every list that the calls make
+pub sound : {r : TokenRing} → Reached r → Sound r
+sound (by-new own) = sound-new own
+sound (by-witness sa da w) = sound-witness (sound w) sa da
+sound (by-claim w) = sound-claim (sound w)
+sound (by-set-next a w) = sound-set-next (sound w) a
+sound (by-remove a w) = sound-remove (sound w) a
+
+-- ---- the neighbours of such a list
+
+module _ {r : TokenRing} (s : Sound r) where
+  pub next-station-active : Active (r .«active_stations») (r .«next_station» .0) ⊎ (r .«next_station» .0 ≡ r .«this_station» .0)
+  next-station-active = rw (s .next) (next-active (r .«this_station» .0) (r .«active_stations»))
+
+  pub next-station-clear : NoneBetween (r .«this_station» .0) (r .«next_station» .0) (r .«active_stations»)
+  next-station-clear = rw (s .next) (next-clear (r .«this_station» .0) (r .«active_stations»))
+
+  pub previous-station-active : Active (r .«active_stations») (r .«previous_station» .0) ⊎ (r .«previous_station» .0 ≡ r .«this_station» .0)
+  previous-station-active = rw (s .previous) (previous-active (r .«this_station» .0) (r .«active_stations») (s .size))
+
+  pub previous-station-clear : NoneBetween (r .«previous_station» .0) (r .«this_station» .0) (r .«active_stations»)
+  previous-station-clear = rw (s .previous) (previous-clear (r .«this_station» .0) (r .«active_stations») (s .size))

@@ -1,0 +1,51 @@
+-- `verify` meets its contract: its tests are the definition's, in the same order.
+-- Assumes nothing.
+use mathlib.Core.Path.{sym, _∙_}
+use borrow.Author.Needs.{needs}
+use borrow.Author.Tests.{not-true, not-false}
+use Rattle.token_ring.proofs.RuleLaws.{holds-no-sa, holds-no-da, holds-rise, holds-wrap}
+use Rattle.token_ring.proofs.flags.verify.Statement.{statement}
+use Rattle.token_ring.proofs.flags.verify.Tie as tie
+
+returns : tie.Need-returns
+returns c = sym (holds-no-sa _ _ _ (not-true _ (c .if1 .taken)))
+
+returns-2 : tie.Need-returns-2
+returns-2 c = sym (holds-no-da _ _ _ (not-false _ (c .before .before .if1 .left)) (not-true _ (c .if2 .taken)))
+
+returns-3 : tie.Need-returns-3
+returns-3 c =
+    let p = c .before .before in
+    c .none-between .ensures
+    ∙ sym (holds-rise _ _ _ (not-false _ (p .before .before .if1 .left)) (not-false _ (p .if2 .left)) (c .before .if3 .taken))
+
+returns-4 : tie.Need-returns-4
+returns-4 c =
+    let p = c .before .before .before in
+    sym (holds-wrap _ _ _ (not-false _ (p .before .before .if1 .left)) (not-false _ (p .if2 .left)) (c .before .before .if3 .left)
+    ∙ rw (sym (c .before .none-between2 .ensures) ∙ not-true _ (c .if4 .taken)))
+
+returns-5 : tie.Need-returns-5
+returns-5 c =
+    let n = c .before .before in
+    let p = n .before .before in
+    c .none-between3 .ensures
+    ∙ sym (holds-wrap _ _ _ (not-false _ (p .before .before .if1 .left)) (not-false _ (p .if2 .left)) (n .before .if3 .left)
+    ∙ rw (sym (n .none-between2 .ensures) ∙ not-false _ (c .before .if4 .left)))
+
+pub verify-spec : {M : Type 1} → statement M
+verify-spec =
+    tie.close
+    (tie.spec
+    (λ c. search needs)
+    returns
+    (λ c. search needs)
+    returns-2
+    (λ c. search needs)
+    (λ c κs. search needs)
+    returns-3
+    (λ c. search needs)
+    (λ c κs. search needs)
+    returns-4
+    (λ c κs. search needs)
+    returns-5)

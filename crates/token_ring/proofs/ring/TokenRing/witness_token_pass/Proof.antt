@@ -1,0 +1,54 @@
+-- `witness_token_pass` meets its contract: what `hear` ensures is the effect of the pass, and the neighbours are found where it updates.
+-- Assumes nothing.
+use mathlib.Core.Logic.{⊎-elim}
+use mathlib.Core.Path.{_≡_, sym, ap, _∙_}
+use borrow.Author.Needs.{needs}
+use lib.ListN.{length}
+use Rattle.codes.specs.declared.address.Address.{Address}
+use Rattle.token_ring.proofs.RuleLaws.{witnessed-sa, witnessed-da, witnessed-effect, length-heard, effected-updated, effected-same}
+use Rattle.token_ring.proofs.ring.TokenRing.witness_token_pass.Statement.{statement}
+use Rattle.token_ring.proofs.ring.TokenRing.witness_token_pass.Tie as tie
+
+returns : tie.Need-returns
+returns c = sym (witnessed-sa _ _ _ (c .if1 .taken))
+
+returns-2 : tie.Need-returns-2
+returns-2 c = sym (witnessed-da _ _ _ (c .before .if1 .left) (c .if2 .taken))
+
+-- the flags are as many as they were
+still : (c : tie.After-hear) → length (c .hear .last .0) ≡ 128
+still c =
+    let e : length (c .before .before .before .before .args .t1 .«active_stations») ≡ 128 = search needs in
+    length-heard _ _ _ (c .before .before .before .before .args .t1) _ _ (c .hear .ensures) ∙ e
+
+next-of-requires : tie.Need-next-of-requires
+next-of-requires c κs = still (c .before .before .before .before .before)
+
+previous-of-requires : tie.Need-previous-of-requires
+previous-of-requires c κs = still (c .before .before .before .before .before .before .before .before)
+
+returns-3 : tie.Need-returns-3
+returns-3 c =
+    let j = c .before .before in
+    let h = j .before .before .before in
+    let s = h .before .before .before .before in
+    ⊎-elim
+    (λ w. effected-updated _ _ _ (s .args .t1) _ _ (h .hear .ensures) _ _ (w .0 .taken)
+    (ap (λ (a : Address). a .0) (w .7) ∙ w .3 .ensures)
+    (ap (λ (a : Address). a .0) (w .8) ∙ w .6 .ensures))
+    (λ w. effected-same _ _ _ (s .args .t1) _ _ (h .hear .ensures) _ _ (w .0 .left) (w .1) (w .2))
+    (j .if3 .came)
+    ∙ sym (witnessed-effect _ _ _ (h .before .before .before .if1 .left) (h .before .before .if2 .left))
+
+pub witness-token-pass-spec : {M : Type 1} → statement M
+witness-token-pass-spec =
+    tie.close
+    (tie.spec
+    returns
+    returns-2
+    (λ c. search needs)
+    (λ c. search needs)
+    (λ c κs. search needs)
+    next-of-requires
+    previous-of-requires
+    returns-3)

@@ -1,0 +1,13 @@
+pub mod Numbers
+pub mod Bits
+pub mod Copies
+pub mod Headers
+pub mod Parts
+pub mod Steps
+pub mod Bodies
+pub mod RoundTrip
+pub mod Shows
+pub mod Searches
+pub mod Samples
+pub mod Walks
+pub mod WholeWalk

@@ -1,0 +1,36 @@
+-- Document 01, "Diagnostics": the bits of an identifier block's body.
+-- Assumes nothing.
+use Prim.Native.Nat.{ℕ, zero, suc, _-_, _*_, _/_, _%_, _^_}
+use mathlib.Core.Bool.{Bool}
+use mathlib.Core.List.{List, [], _∷_}
+use mathlib.Core.Option.{Option, some, none}
+use lib.ListN.{length}
+use lib.Dec.{leb, eqb}
+use Rattle.codes.specs.Pick.{if}
+use Rattle.codes.specs.Part.{byteAt}
+
+-- identifier bits: byte i/8 after the header, lowest bit first
+unfoldable pub bitOf : List ℕ → ℕ → Bool
+bitOf body i = eqb (byteAt body (i / 8) / 2 ^ (i % 8) % 2) 1
+
+-- the modules that have a bit: eight a byte, of at most 62 bytes, since six bits give a block's length with its header
+unfoldable pub modulesOf : List ℕ → ℕ
+modulesOf body = if (leb 62 (length body)) 496 (8 * length body)
+
+-- the first of k modules from a number that is set
+abbrev pub firstOfNext : List ℕ → ℕ → ℕ → Option ℕ
+firstOfNext body zero from = none
+firstOfNext body (suc k) from = if (bitOf body from) (some from) (firstOfNext body k (suc from))
+
+-- the first module set at or above a number
+unfoldable pub firstOf : List ℕ → ℕ → Option ℕ
+firstOf body from = firstOfNext body (modulesOf body - from) from
+
+-- those of k modules from a number that are set, rising
+abbrev pub setOfNext : List ℕ → ℕ → ℕ → List ℕ
+setOfNext body zero from = []
+setOfNext body (suc k) from = if (bitOf body from) (from ∷ setOfNext body k (suc from)) (setOfNext body k (suc from))
+
+-- the modules set at or above a number, rising
+unfoldable pub setFrom : List ℕ → ℕ → List ℕ
+setFrom body from = setOfNext body (modulesOf body - from) from

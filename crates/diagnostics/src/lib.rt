@@ -1,0 +1,18 @@
+// Extended diagnostics of a peripheral: what profirust's dp/diagnostics.rs has. Its `ManagedSlice` is a slice that the
+// caller lends with each call, and the struct beside it keeps the length alone.
+pub mod channel;
+pub mod modules;
+pub mod store;
+pub mod walk;
+
+pub use channel::ChannelDataType;
+pub use channel::ChannelDiagnostics;
+pub use channel::ChannelError;
+pub use modules::Module;
+pub use store::ExtendedDiagnostics;
+pub use store::Filled;
+pub use walk::Body;
+pub use walk::ExtDiagBlock;
+pub use walk::ExtDiagBlockIter;
+pub use walk::Found;
+pub use walk::Step;

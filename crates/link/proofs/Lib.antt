@@ -1,0 +1,15 @@
+pub mod Invariant
+pub mod Kept
+pub mod Steps
+pub mod Whole
+pub mod Safety
+pub mod Going
+pub mod Liveness
+pub mod Transfer
+pub mod Mirror
+pub mod Theorem
+pub mod Coded
+pub mod Plain
+pub mod Scenes
+pub mod Runs
+pub mod Wrong

@@ -1,0 +1,12 @@
+pub mod Messages
+pub mod Turns
+pub mod Initiator
+pub mod Responder
+pub mod History
+pub mod Line
+pub mod Safe
+pub mod Live
+pub mod Demand
+pub mod Ours
+pub mod Follows
+pub mod Coded

@@ -1,0 +1,16 @@
+-- `written` meets its contract: each arm is a clause of `wrote`.
+-- Assumes nothing.
+use borrow.Author.Needs.{needs}
+use Rattle.initiator.proofs.moves.written.Statement.{statement}
+use Rattle.initiator.proofs.moves.written.Tie as tie
+
+sent : tie.Need-returns
+sent c buf = rw (c .before .before .result .given .1, c .bytes-sent .ensures)
+
+refused : tie.Need-returns-2
+refused c buf = rw (c .before .before .result2 .given .1) (c .refuse .ensures buf)
+
+pub written-spec : {M : Type 1} → statement M
+written-spec =
+    tie.close
+    (tie.spec (λ c. search needs) (λ c κs. search needs) (λ c. search needs) (λ c κs. search needs) sent refused)

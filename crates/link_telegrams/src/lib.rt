@@ -1,0 +1,14 @@
+// The order link's telegrams: which headers they have, and what heard bytes are to an end of the link. What the link does with
+// them is in the crates above; SRD low, Slave, Ok and DataLow are named here and nowhere else.
+pub mod headers;
+pub mod heard;
+
+pub use headers::Bit;
+pub use headers::ok_header;
+pub use headers::opening_header;
+pub use headers::order_header;
+pub use headers::reply_header;
+pub use heard::ReplyHeard;
+pub use heard::RequestHeard;
+pub use heard::reply_heard;
+pub use heard::request_heard;

@@ -1,0 +1,6 @@
+pub mod AnswerLaws
+pub mod LineLaws
+pub mod ListingLaws
+pub mod OneAnswer
+pub mod SaidLaws
+pub mod Samples

@@ -1,0 +1,43 @@
+-- `put_kind` meets its contract: each arm places the bytes of its kind.
+-- Assumes nothing.
+use mathlib.Core.Path.{ap}
+use Rattle.listing.specs.Lines.{kindField}
+use Rattle.listing.proofs.LineLaws.{placed-as}
+use borrow.Author.Needs.{needs}
+use Rattle.listing.proofs.line.put_kind.Statement.{statement}
+use Rattle.listing.proofs.line.put_kind.Tie as tie
+
+returns : tie.Need-returns
+returns c =
+    let field = c .before .before in
+    placed-as (ap kindField (field .before .before .before .enum-told .given .1)) (field .put-bytes .ensures)
+
+returns-2 : tie.Need-returns-2
+returns-2 c =
+    let field = c .before .before in
+    placed-as (ap kindField (field .before .before .before .enum-told2 .given .1)) (field .put-bytes2 .ensures)
+
+returns-3 : tie.Need-returns-3
+returns-3 c =
+    let field = c .before .before in
+    placed-as (ap kindField (field .before .before .before .enum-told3 .given .1)) (field .put-bytes3 .ensures)
+
+pub put-kind-spec : {M : Type 1} → statement M
+put-kind-spec =
+    tie.close
+    (tie.spec
+    (λ c. search needs)
+    (λ c. search needs)
+    (λ c κs. search needs)
+    (λ c. search needs)
+    (λ c. search needs)
+    (λ c κs. search needs)
+    (λ c. search needs)
+    (λ c. search needs)
+    (λ c κs. search needs)
+    (λ c. search needs)
+    returns
+    (λ c. search needs)
+    returns-2
+    (λ c. search needs)
+    returns-3)

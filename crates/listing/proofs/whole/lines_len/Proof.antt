@@ -1,0 +1,92 @@
+-- `lines_len` meets its contract: after each turn the lines up to the place are counted, and those from there on are left.
+-- Assumes nothing.
+use mathlib.Core.Path.{_≡_, sym, ap, _∙_}
+use Rattle.listing.specs.Lines.{saidText}
+use mathlib.Core.List.{List}
+use Prim.Native.Nat.{ℕ, _+_, _-_, _≤_, _<_}
+use native.Mathlib.Omega.{arith}
+use denote.Ref.{now}
+use lib.ListN.{length, drop}
+use Rattle.telegram.proofs.ByteLaws.{drop-bytes}
+use Rattle.listing.proofs.SaidLaws.{said-short, said-reason}
+use Rattle.listing.proofs.ListingLaws.{Counted, counts, ends-within, counts-on, counts-all, said-part, lines-small}
+use borrow.Author.Needs.{needs}
+use Rattle.listing.proofs.whole.lines_len.Statement.{statement}
+use Rattle.listing.proofs.whole.lines_len.Tie as tie
+
+abbrev Inv-loop : tie.InvT-loop
+Inv-loop input len₀ at₀ len at = Counted input len at
+
+abbrev μ-loop : tie.MeasureT-loop
+μ-loop input len₀ at₀ len at = length input - at
+
+-- in the first arm the telegram ends within the input
+ended : (c : tie.After-struct-known Inv-loop μ-loop)
+    → let arm = c .before .before in
+    let head = arm .before .before .before .before in
+    (1 ≤ arm .said .given .0 .0 .len) × (head .loop .at + arm .said .given .0 .0 .len ≤ length (now (head .before .before .args .input)))
+ended c =
+    let arm = c .before .before in
+    let told = arm .before .before .before in
+    ends-within _ _ (told .before .loop .inv .within) (sym (told .said-at .ensures) ∙ arm .said .given .1)
+
+loop-holds : tie.Need-loop-holds Inv-loop μ-loop
+loop-holds c = counts
+
+said-at-requires : tie.Need-said-at-requires Inv-loop μ-loop
+said-at-requires c κs = c .loop .inv .within
+
+said-len-requires : tie.Need-said-len-requires Inv-loop μ-loop
+said-len-requires c κs =
+    let head = c .before in
+    let known = head .before in
+    said-short _ _ (omega (arith, head .loop .inv .within, known .before .pre)) (drop-bytes (head .loop .at) (now (known .before .args .input)) (λ i. known .shared-slice-known .given i .fits)) (said-reason _ _ (sym (c .said-at .ensures)))
+
+add-len : tie.Need-add-len Inv-loop μ-loop
+add-len c =
+    let told = c .before in
+    let head = told .before in
+    let known = head .before in
+    let small = lines-small (now (known .before .args .input)) (λ i. known .shared-slice-known .given i .fits) (known .before .pre) in
+    let part = said-part (head .loop .at) (drop (head .loop .at) (now (known .before .args .input))) in
+    omega (arith, head .loop .inv .left, c .said-len .ensures ∙ ap (λ x. length (saidText x)) (told .said-at .ensures), known .before .pre)
+
+returns : tie.Need-returns Inv-loop μ-loop
+returns c =
+    let counted = c .before .before in
+    let told = counted .before in
+    counts-all (told .before .loop .inv) (told .said-at .ensures) (counted .said-len .ensures) (c .enum-told .given .1)
+
+add-at : tie.Need-add-at Inv-loop μ-loop
+add-at c =
+    let e = ended c in
+    omega (arith, e, c .before .before .before .before .before .before .before .before .pre)
+
+loop-less : tie.Need-loop-less Inv-loop μ-loop
+loop-less c =
+    let e = ended c in
+    omega (arith, e)
+
+loop-again : tie.Need-loop-again Inv-loop μ-loop
+loop-again c =
+    let arm = c .before .before in
+    let counted = arm .before .before in
+    let told = counted .before in
+    counts-on (told .before .loop .inv) (told .said-at .ensures) (counted .said-len .ensures) (arm .said .given .1)
+
+pub lines-len-spec : {M : Type 1} → statement M
+lines-len-spec =
+    tie.close
+    (tie.spec
+    Inv-loop
+    μ-loop
+    loop-holds
+    said-at-requires
+    said-len-requires
+    add-len
+    (λ c. search needs)
+    (λ c. search needs)
+    returns
+    add-at
+    loop-less
+    loop-again)

@@ -1,0 +1,61 @@
+-- Document 01, "The lister": a line of the text, from what it says to its bytes. Each field stands in brackets of its own.
+-- Assumes nothing.
+use mathlib.Core.List.{List, _++_}
+use Prim.Native.Nat.{ℕ}
+use Rattle.text.specs.Decimal.{decimalOf}
+use Rattle.text.specs.Quoted.{bytesOf}
+use Rattle.listing.specs.declared.line.End.{End}
+use Rattle.listing.specs.declared.line.End.the-variants.{Done, Incomplete, Refused}
+use Rattle.listing.specs.declared.line.Figure.{Figure}
+use Rattle.listing.specs.declared.line.Figure.the-variants.{Number, Absent}
+use Rattle.listing.specs.declared.line.Kind.{Kind}
+use Rattle.listing.specs.declared.line.Kind.the-variants.{Ack, Token, Data}
+use Rattle.listing.specs.declared.line.Line.{Line}
+use Rattle.listing.specs.declared.line.Said.{Said}
+use Rattle.listing.specs.declared.line.Said.the-variants.{Telegram, Last}
+
+-- "Numbers decimal; … `-` absent"
+abbrev pub figureOf : Figure → List ℕ
+figureOf (Number n) = decimalOf n
+figureOf Absent = bytesOf "-"
+
+-- the kinds: ack, token, data
+abbrev pub kindField : Kind → List ℕ
+kindField Ack = bytesOf " kind=ack"
+kindField Token = bytesOf " kind=token"
+kindField Data = bytesOf " kind=data"
+
+-- "`at` start, `len` telegram length"
+unfoldable pub placeOf : Line → List ℕ
+placeOf l = (bytesOf "at=" ++ decimalOf (l .at)) ++ kindField (l .kind) ++ (bytesOf " len=" ++ decimalOf (l .len))
+
+-- the addresses and the SAPs
+unfoldable pub headerOf : Line → List ℕ
+headerOf l =
+    (bytesOf " da=" ++ figureOf (l .da))
+    ++ (bytesOf " sa=" ++ figureOf (l .sa))
+    ++ (bytesOf " dsap=" ++ figureOf (l .dsap))
+    ++ (bytesOf " ssap=" ++ figureOf (l .ssap))
+
+-- the function code and the PDU's length, at the end of the line
+unfoldable pub contentOf : Line → List ℕ
+contentOf l = (bytesOf " fc=" ++ figureOf (l .fc)) ++ (bytesOf " pdu=" ++ figureOf (l .pdu)) ++ bytesOf "\n"
+
+-- "a line per telegram"
+unfoldable pub lineOf : Line → List ℕ
+lineOf l = placeOf l ++ headerOf l ++ contentOf l
+
+-- the ends: done, incomplete, refused-N
+abbrev pub endName : End → List ℕ
+endName Done = bytesOf "end=done"
+endName Incomplete = bytesOf "end=incomplete"
+endName (Refused n) = bytesOf "end=refused-" ++ decimalOf n
+
+-- "`end=incomplete at=P`, `end=refused-N at=P`", and "end=done at=10"
+unfoldable pub endOf : End → ℕ → List ℕ
+endOf end at = endName end ++ (bytesOf " at=" ++ decimalOf at) ++ bytesOf "\n"
+
+-- the line of what is said
+abbrev pub saidText : Said → List ℕ
+saidText (Telegram line) = lineOf line
+saidText (Last end at) = endOf end at

@@ -1,0 +1,10 @@
+// The lister's whole text, from any input into a lent buffer: `list` makes the listing, `output` all that the program prints.
+mod line;
+mod said;
+pub mod whole;
+
+pub use whole::INPUT_LIMIT;
+pub use whole::LISTING_ROOM;
+pub use whole::Listed;
+pub use whole::list;
+pub use whole::output;

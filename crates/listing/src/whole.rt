@@ -1,0 +1,125 @@
+use crate::line::Said;
+use crate::line::put_said;
+use crate::said::said_at;
+use codes::Part;
+use codes::Refusal;
+ghost use mathlib.Core.Path.{_≡_};
+ghost use Prim.Native.Nat.{_+_, _≤_};
+ghost use lib.ListN.{length};
+ghost use Rattle.text.specs.Placed.{Placed};
+ghost use Rattle.listing.specs.Lines.{saidText};
+ghost use Rattle.listing.specs.Listing.{linesAt, listingOf, refusedLine, outputOf};
+ghost use Rattle.listing.specs.Answers.{textIn, listOf, madeOf, Made};
+
+// An input above it is refused by 22.
+pub const INPUT_LIMIT: usize = 4096;
+
+// A buffer of this length always has room (output-made of proofs/AnswerLaws.antt).
+pub const LISTING_ROOM: usize = 237596;
+
+// The length of the text that a call made at the buffer's front.
+pub enum Listed {
+    Text(usize),
+    Refused(Refusal),
+}
+
+impl Listed {
+    // The text, in the buffer that it was made in; no bytes where the call was refused.
+    pub fn text(self, buf: &[u8]) -> &[u8]
+        ensures { λ r. ⌜ now r ≡ textIn self (now (buf .entry)) ⌝ }
+    {
+        match self {
+            Listed::Text(len) => Part { start: 0, len }.show(buf),
+            Listed::Refused(_) => Part { start: 0, len: 0 }.show(buf),
+        }
+    }
+}
+
+// No line is longer than a scratch line (said-short of proofs/SaidLaws.antt), so that putting it there counts its bytes.
+fn said_len(said: Said) -> usize
+    requires { ⌜ length (saidText said) ≤ 80 ⌝ }
+    ensures { λ r. ⌜ r ≡ length (saidText said) ⌝ }
+{
+    let mut scratch = [0u8; 80];
+    put_said(&mut scratch, 0, said)
+}
+
+fn lines_len(input: &[u8]) -> usize
+    requires { ⌜ length (now input) ≤ 4096 ⌝ }
+    ensures { λ r. ⌜ r ≡ length (linesAt 0 (now (input .entry))) ⌝ }
+{
+    let mut len = 0;
+    let mut at = 0;
+    loop {
+        let said = said_at(input, at);
+        len += said_len(said);
+        let Said::Telegram(line) = said else {
+            return len;
+        };
+        at += line.len;
+    }
+}
+
+fn put_lines(buf: &mut [u8], to: usize, input: &[u8]) -> usize
+    requires { ⌜ to ≤ length (now buf) + 1 ⌝ }
+    ensures { λ r. ⌜ Placed (now (buf .entry)) to (linesAt 0 (now (input .entry))) r (now (buf .exit)) ⌝ }
+{
+    let mut next = to;
+    let mut at = 0;
+    loop {
+        let said = said_at(input, at);
+        next = put_said(buf, next, said);
+        let Said::Telegram(line) = said else {
+            return next;
+        };
+        at += line.len;
+    }
+}
+
+fn listing_len(input: &[u8]) -> usize
+    requires { ⌜ length (now input) ≤ 4096 ⌝ }
+    ensures { λ r. ⌜ r ≡ length (listingOf (now (input .entry))) ⌝ }
+{
+    7 + text::decimal_len(input.len()) + lines_len(input)
+}
+
+fn put_listing(buf: &mut [u8], input: &[u8]) -> usize
+    ensures { λ r. ⌜ Placed (now (buf .entry)) 0 (listingOf (now (input .entry))) r (now (buf .exit)) ⌝ }
+{
+    let number = text::put_bytes(buf, 0, b"bytes=");
+    let feed = text::put_decimal(buf, number, input.len());
+    let lines = text::put_byte(buf, feed, b'\n');
+    put_lines(buf, lines, input)
+}
+
+// The listing of an input of at most 4,096 bytes. The room is counted first: a refused call leaves the buffer as it came.
+pub fn list(input: &[u8], buf: &mut [u8]) -> Listed
+    ensures { λ r. ⌜ Made (listingOf (now (input .entry))) (now (buf .entry)) (listOf (now (input .entry)) (length (now (buf .entry)))) r (now (buf .exit)) ⌝ }
+{
+    if input.len() > INPUT_LIMIT {
+        return Listed::Refused(Refusal::InputTooLong);
+    }
+    if buf.len() < listing_len(input) {
+        return Listed::Refused(Refusal::NoRoom);
+    }
+    Listed::Text(put_listing(buf, input))
+}
+
+fn put_refused(buf: &mut [u8]) -> Listed
+    ensures { λ r. ⌜ Made refusedLine (now (buf .entry)) (madeOf refusedLine (length (now (buf .entry)))) r (now (buf .exit)) ⌝ }
+{
+    if buf.len() < 11 {
+        return Listed::Refused(Refusal::NoRoom);
+    }
+    Listed::Text(text::put_bytes(buf, 0, b"refused=22\n"))
+}
+
+// All that the lister prints for an input: its listing, or the one line of refusal 22.
+pub fn output(input: &[u8], buf: &mut [u8]) -> Listed
+    ensures { λ r. ⌜ Made (outputOf (now (input .entry))) (now (buf .entry)) (madeOf (outputOf (now (input .entry))) (length (now (buf .entry)))) r (now (buf .exit)) ⌝ }
+{
+    if input.len() > INPUT_LIMIT {
+        return put_refused(buf);
+    }
+    list(input, buf)
+}

@@ -1,0 +1,3 @@
+// The bench's commands on diagnostics.
+mod blocks;
+pub mod commands;

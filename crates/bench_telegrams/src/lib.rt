@@ -1,0 +1,3 @@
+// The bench's commands on telegrams.
+pub mod reading;
+pub mod writing;

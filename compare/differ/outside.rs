@@ -1,0 +1,145 @@
+//! The expected differences: where document 01 decides outside the Rust's domain. Each rule says to which commands it
+//! belongs and what our side must then answer, letter for letter.
+
+/// A command outside the domain.
+pub struct Case<'a> {
+    pub words: Vec<&'a str>,
+    /// What the Rust answers to it.
+    pub rust: &'a str,
+    /// What the Rust answers to its twin in the domain.
+    pub twin: &'a str,
+}
+
+pub struct Rule {
+    pub name: &'static str,
+    pub reason: &'static str,
+    /// What our side must answer, where the rule belongs to this command.
+    pub wanted: fn(&Case) -> Option<String>,
+}
+
+pub const RULES: [Rule; 9] = [
+    Rule {
+        name: "address above 127",
+        reason: "8; the Rust writes it, or panics on what else is wrong",
+        wanted: large_address,
+    },
+    Rule { name: "length byte above 249", reason: "9; the Rust panics", wanted: too_long },
+    Rule { name: "buffer too short", reason: "10; the Rust panics", wanted: no_room },
+    Rule { name: "own above 125", reason: "11; the Rust takes 126 and 127 and panics above", wanted: own_address },
+    Rule {
+        name: "set or removed above 125",
+        reason: "11; the Rust takes 126 and 127 and panics above",
+        wanted: no_station,
+    },
+    Rule { name: "store of length 0", reason: "the end; the Rust panics", wanted: empty_store },
+    Rule { name: "walked length above the store", reason: "counts as the store's; the Rust panics", wanted: long_walk },
+    Rule { name: "block of length zero", reason: "14; the Rust panics", wanted: zero_length },
+    Rule { name: "cycling Inactive", reason: "15; the Rust panics", wanted: inactive },
+];
+
+/// The command whose answer by the Rust helps to tell ours: the walked length put to the store's; for a set or removed
+/// address that the Rust takes, one on which it panics and leaves the list as it was. Else the command itself.
+pub fn twin(command: &str) -> String {
+    let words: Vec<&str> = command.split(' ').collect();
+    match words[..] {
+        ["step", store, _, cursor] => format!("step {store} {} {cursor}", byte_count(store)),
+        ["ring", own, ref ops @ ..] => {
+            let ops = ops.iter().map(|op| if is_bad(op) { format!(" {}:255", &op[..1]) } else { format!(" {op}") });
+            format!("ring {own}{}", ops.collect::<String>())
+        }
+        _ => command.to_string(),
+    }
+}
+
+fn number(word: &str) -> usize {
+    word.parse().expect("a number that make_inputs wrote")
+}
+
+fn byte_count(hex: &str) -> usize {
+    if hex == "-" {
+        0
+    } else {
+        hex.len() / 2
+    }
+}
+
+/// An op that sets or removes an address above 125.
+fn is_bad(op: &str) -> bool {
+    (op.starts_with("s:") || op.starts_with("r:")) && number(&op[2..]) > 125
+}
+
+fn length_byte(dsap: &str, ssap: &str, pdu: &str) -> usize {
+    3 + usize::from(dsap != "-") + usize::from(ssap != "-") + byte_count(pdu)
+}
+
+fn large_address(case: &Case) -> Option<String> {
+    let ["write", da, sa, ..] = case.words[..] else { return None };
+    (number(da) > 127 || number(sa) > 127).then_some("refused 8".to_string())
+}
+
+fn too_long(case: &Case) -> Option<String> {
+    let ["write", _, _, dsap, ssap, _, pdu, _] = case.words[..] else { return None };
+    let panics = case.rust == "panic";
+    (panics && length_byte(dsap, ssap, pdu) > 249).then_some("refused 9".to_string())
+}
+
+fn no_room(case: &Case) -> Option<String> {
+    let (total, room) = match case.words[..] {
+        ["write", _, _, dsap, ssap, _, pdu, room] => match length_byte(dsap, ssap, pdu) {
+            3 => (6, room),
+            11 => (14, room),
+            length => (length + 6, room),
+        },
+        ["wtoken", _, _, room] => (3, room),
+        ["wack", room] => (1, room),
+        _ => return None,
+    };
+    (case.rust == "panic" && number(room) < total).then_some("refused 10".to_string())
+}
+
+fn own_address(case: &Case) -> Option<String> {
+    let ["ring", own, ..] = case.words[..] else { return None };
+    let taken_or_panic = (case.rust == "panic") == (number(own) > 127);
+    (taken_or_panic && number(own) > 125).then_some("refused-11".to_string())
+}
+
+/// The twin's walk has a panic in the place of each refused op, and no other.
+fn no_station(case: &Case) -> Option<String> {
+    let ["ring", _, ref ops @ ..] = case.words[..] else { return None };
+    let bad = ops.iter().filter(|op| is_bad(op)).count();
+    let as_wanted = bad > 0 && case.twin.matches("panic ").count() == bad;
+    as_wanted.then(|| case.twin.replace("panic ", "refused-11 "))
+}
+
+fn empty_store(case: &Case) -> Option<String> {
+    let empty = matches!(case.words[..], ["diag", "-"] | ["step", "-", ..] | ["store", "0", ..]);
+    let before = case.rust.strip_suffix("panic")?;
+    empty.then(|| format!("{before}end"))
+}
+
+fn long_walk(case: &Case) -> Option<String> {
+    let ["step", store, length, _] = case.words[..] else { return None };
+    let panics = case.rust == "panic" && case.twin != "panic";
+    (panics && number(length) > byte_count(store)).then(|| case.twin.to_string())
+}
+
+/// The walk panics at a header whose low six bits are zero and whose top bit is clear.
+fn zero_length(case: &Case) -> Option<String> {
+    let parts: Vec<&str> = case.rust.split(" | ").collect();
+    let (last, before) = parts.split_last()?;
+    let store = match case.words[..] {
+        ["diag", store] | ["step", store, ..] => store,
+        ["store", ..] => before.iter().rev().find(|part| part.starts_with("true "))?.rsplit(' ').next()?,
+        _ => return None,
+    };
+    let cursor = match case.words[..] {
+        ["step", _, _, cursor] => number(cursor),
+        _ => before.last().and_then(|block| block.rsplit_once(" @")).map_or(0, |(_, cursor)| number(cursor)),
+    };
+    let header = u8::from_str_radix(store.get(2 * cursor..2 * cursor + 2)?, 16).ok()?;
+    (*last == "panic" && header & 0xBF == 0).then(|| [before, &["refused-14"]].concat().join(" | "))
+}
+
+fn inactive(case: &Case) -> Option<String> {
+    (case.words == ["cycle", "Inactive"] && case.rust == "panic").then_some("refused 15".to_string())
+}

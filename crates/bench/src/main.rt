@@ -1,189 +1,187 @@
 // The bench: reads commands from standard input, one a line, and writes one answer line for each, in order. Each command is one call of the
 // library, or a row of them. A line that is no command is answered `error`, and changes nothing.
-use bench_diagnostics::commands;
-use bench_link::initiator_end;
-use bench_link::initiator_end::InitiatorEnd;
-use bench_link::responder_end;
-use bench_link::responder_end::ResponderEnd;
-use bench_link::settings_text;
-use bench_telegrams::reading;
-use bench_telegrams::writing;
-use bench_text::answers::flush;
-use bench_text::answers::flushed;
-use bench_text::answers::put_error;
-use bench_text::words::find;
-use bench_text::words::is_first;
+mod answers;
+mod blocks;
+mod initiator_end;
+mod lister_text;
+mod parts;
+mod reading;
+mod responder_end;
+mod settings_text;
+mod stations;
+mod walks;
+mod words;
+mod writing;
+
+use crate::answers::Out;
+use crate::answers::flush;
+use crate::answers::flushed;
+use crate::answers::put_char;
+use crate::answers::put_error;
+use crate::initiator_end::InitiatorEnd;
+use crate::responder_end::ResponderEnd;
+use crate::words::INPUT;
+use crate::words::Input;
+use crate::words::Last;
+use crate::words::find;
+use crate::words::get_last_hex;
+use crate::words::number_of;
+use crate::words::shown;
 use libc::STDERR_FILENO;
 use libc::STDIN_FILENO;
 use libc::STDOUT_FILENO;
+ghost use Prim.Native.Nat.{_≤_};
 
-// The longest input, and the longest line.
-const INPUT: usize = 1048576;
-
+// The longest line.
 const LINE: usize = 16384;
 
-fn reading_command(line: &[u8], out: &mut [u8], to: usize) -> usize {
-    if is_first(line, b"read") {
-        return reading::read(line, 4, out, to);
+// The commands whose one word is a byte string, by their number among the names in `plain_command`.
+fn hex_answer(number: usize, bytes: &[u8], out: &mut Out, to: usize) -> usize {
+    match number {
+        0 => reading::put_read(out, to, bytes),
+        1 => reading::put_about(out, to, bytes),
+        2 => walks::put_diag(out, to, bytes),
+        3 => settings_text::put_settings_read(out, to, bytes),
+        _ => lister_text::put_listing(out, to, bytes),
     }
-    if is_first(line, b"about") {
-        return reading::about(line, 5, out, to);
-    }
-    if is_first(line, b"fc") {
-        return reading::fc(line, 2, out, to);
-    }
-    if is_first(line, b"cycle") {
-        return reading::cycle(line, 5, out, to);
-    }
-    writing_command(line, out, to)
 }
 
-fn writing_command(line: &[u8], out: &mut [u8], to: usize) -> usize {
-    if is_first(line, b"write") {
-        return writing::write(line, 5, out, to);
-    }
-    if is_first(line, b"wtoken") {
-        return writing::wtoken(line, 6, out, to);
-    }
-    if is_first(line, b"wack") {
-        return writing::wack(line, 4, out, to);
-    }
-    other_command(line, out, to)
+fn hex_command(number: usize, input: &Input, at: usize, out: &mut Out, to: usize) -> usize {
+    let mut bytes = [0u8; 4200];
+    let Last::Is(len) = get_last_hex(input, at, &mut bytes) else {
+        return put_error(out, to);
+    };
+    hex_answer(number, shown(&bytes, len), out, to)
 }
 
-fn other_command(line: &[u8], out: &mut [u8], to: usize) -> usize {
-    if is_first(line, b"ring") {
-        return bench_stations::ring(line, 4, out, to);
+fn telegram_command(number: usize, input: &Input, at: usize, out: &mut Out, to: usize) -> usize {
+    match number {
+        5 => reading::fc(input, at, out, to),
+        6 => reading::cycle(input, at, out, to),
+        7 => writing::write(input, at, out, to),
+        8 => writing::wtoken(input, at, out, to),
+        _ => writing::wack(input, at, out, to),
     }
-    if is_first(line, b"diag") {
-        return commands::diag(line, 4, out, to);
-    }
-    if is_first(line, b"step") {
-        return commands::step(line, 4, out, to);
-    }
-    if is_first(line, b"store") {
-        return commands::store(line, 5, out, to);
-    }
-    if is_first(line, b"settings") {
-        return settings_text::settings(line, 8, out, to);
-    }
-    if is_first(line, b"lister") {
-        return bench_listing::lister(line, 6, out, to);
-    }
-    put_error(out, to)
 }
 
-// The two ends of the link that the bench keeps.
-struct Ends {
+fn other_command(number: usize, input: &Input, at: usize, out: &mut Out, to: usize) -> usize {
+    match number {
+        10 => stations::ring(input, at, out, to),
+        11 => walks::step(input, at, out, to),
+        12 => walks::store(input, at, out, to),
+        _ => put_error(out, to),
+    }
+}
+
+fn plain_command(input: &Input, at: usize, out: &mut Out, to: usize) -> usize {
+    let name = number_of(
+        input,
+        at,
+        b"read about diag settings lister fc cycle write wtoken wack ring step store ",
+    );
+    if name.number < 5 {
+        return hex_command(name.number, input, name.next, out, to);
+    }
+    if name.number < 10 {
+        return telegram_command(name.number, input, name.next, out, to);
+    }
+    other_command(name.number, input, name.next, out, to)
+}
+
+// The two ends of the link that the bench keeps, and the place behind the last answer.
+struct Bench {
     initiator: InitiatorEnd,
     responder: ResponderEnd,
-}
-
-// The ends after a line, and the place behind its answer.
-struct Played {
-    ends: Ends,
     to: usize,
 }
 
-fn no_ends() -> Ends {
+fn fresh() -> Bench {
     let initiator = initiator_end::none();
     let responder = responder_end::none();
-    Ends {
+    Bench {
         initiator,
         responder,
+        to: 0,
     }
 }
 
-fn initiator_command(line: &[u8], ends: Ends, out: &mut [u8], to: usize) -> Played {
-    let old = ends.initiator;
-    let responder = ends.responder;
-    let played = initiator_end::play(line, old, out, to);
-    let initiator = played.end;
-    let ends = Ends {
-        initiator,
-        responder,
-    };
-    Played {
-        ends,
-        to: played.to,
-    }
-}
-
-fn responder_command(line: &[u8], ends: Ends, out: &mut [u8], to: usize) -> Played {
-    let old = ends.responder;
-    let initiator = ends.initiator;
-    let played = responder_end::play(line, old, out, to);
-    let responder = played.end;
-    let ends = Ends {
-        initiator,
-        responder,
-    };
-    Played {
-        ends,
-        to: played.to,
-    }
-}
-
-fn answer(line: &[u8], ends: Ends, out: &mut [u8], to: usize) -> Played {
-    if LINE < line.len() {
-        return Played {
-            ends,
-            to: put_error(out, to),
+// The names of an end's commands begin with its letter, and no other name does.
+fn answer(input: &Input, at: usize, bench: Bench, out: &mut Out, to: usize) -> Bench {
+    let initiator = bench.initiator;
+    let responder = bench.responder;
+    if text::byte_is_at(input, at, b'I') {
+        let played = initiator_end::play(input, at, initiator, out, to);
+        let end = played.end;
+        return Bench {
+            initiator: end,
+            responder,
+            to: played.to,
         };
     }
-    if text::begins_at(line, 0, b"I.") {
-        return initiator_command(line, ends, out, to);
+    if text::byte_is_at(input, at, b'R') {
+        let played = responder_end::play(input, at, responder, out, to);
+        let end = played.end;
+        return Bench {
+            initiator,
+            responder: end,
+            to: played.to,
+        };
     }
-    if text::begins_at(line, 0, b"R.") {
-        return responder_command(line, ends, out, to);
+    Bench {
+        initiator,
+        responder,
+        to: plain_command(input, at, out, to),
     }
-    Played {
-        ends,
-        to: reading_command(line, out, to),
+}
+
+// Lays the line feed behind an answer.
+fn ended(mut bench: Bench, out: &mut Out) -> Bench {
+    bench.to = put_char(out, bench.to, b'\n');
+    bench
+}
+
+fn too_long(mut bench: Bench, out: &mut Out) -> Bench {
+    bench.to = put_error(out, bench.to);
+    bench
+}
+
+fn answer_line(input: &Input, at: usize, len: usize, bench: Bench, out: &mut Out) -> Bench {
+    if LINE < len {
+        return too_long(bench, out);
     }
+    let to = flushed(out, bench.to);
+    answer(input, at, bench, out, to)
 }
 
 // Whether a line gets no answer.
-fn is_passed_over(line: &[u8]) -> bool {
-    if line.len() == 0 {
+fn is_passed_over(input: &Input, at: usize, len: usize) -> bool {
+    if len == 0 {
         return true;
     }
-    line[0] == b'#'
+    text::byte_is_at(input, at, b'#')
 }
 
-fn answer_line(line: &[u8], ends: Ends, out: &mut [u8], to: usize) -> Played {
-    if is_passed_over(line) {
-        return Played { ends, to };
+fn play_line(input: &Input, at: usize, len: usize, bench: Bench, out: &mut Out) -> Bench {
+    if is_passed_over(input, at, len) {
+        return bench;
     }
-    let room = flushed(out, to);
-    let played = answer(line, ends, out, room);
-    let after = played.ends;
-    Played {
-        ends: after,
-        to: text::put_byte(out, played.to, b'\n'),
-    }
+    ended(answer_line(input, at, len, bench, out), out)
 }
 
-fn run(input: &[u8], out: &mut [u8]) {
-    let mut ends = no_ends();
+fn run(input: &Input, len: usize, out: &mut Out)
+    requires { ⌜ len ≤ 1048576 ⌝ }
+{
+    let mut bench = fresh();
     let mut at = 0;
-    let mut to = 0;
-    while at < input.len() {
+    while at < len {
         let end = find(input, at, b'\n');
-        let played = answer_line(&input[at..end], ends, out, to);
-        ends = played.ends;
-        to = played.to;
-        if end == input.len() {
-            flush(out, to);
-            return;
-        }
+        bench = play_line(input, at, end - at, bench, out);
         at = end + 1;
     }
-    flush(out, to);
+    flush(out, bench.to);
 }
 
-// One byte more than the longest input, so that a longer one is seen.
-fn input_buffer() -> [u8; 1048577] {
+fn input_buffer() -> Input {
     [0; 1048577]
 }
 
@@ -204,6 +202,7 @@ fn main() {
         io::write_all(STDERR_FILENO, b"bench: standard input cannot be read\n");
         return;
     }
+    input[n] = b'\n';
     let mut out = io::large_buffer();
-    run(&input[..n], &mut out);
+    run(&input, n, &mut out);
 }

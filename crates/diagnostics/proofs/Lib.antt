@@ -1,6 +1,5 @@
 pub mod Numbers
 pub mod Bits
-pub mod Copies
 pub mod Headers
 pub mod Parts
 pub mod Steps

@@ -5,10 +5,10 @@ use mathlib.Core.Bool.{Bool, true, false}
 use mathlib.Core.List.{List, [], _∷_, _++_, append-assoc, append-nil}
 use Prim.Native.Nat.{ℕ, zero, suc, _+_, _-_, _*_, _/_, _%_, _≤_, _<_}
 use native.Mathlib.Omega.{arith}
-use borrow.Author.Tests.{le-leb}
 use lib.Dec.{eqb}
 use lib.ListN.{length, length-append}
 use lib.Seq.{drop-append-add, getD-append-add, getD-append-seam, take-append-seam}
+use Rattle.codes.proofs.PartLaws.{shown-fits}
 use Rattle.diagnostics.specs.Blocks.{AllFitting, Block, ChannelFits, Fitting, RowSays, Says, bit, channel, channelFits, device, deviceFits, firstByte, identifier, identifierFits, itsOwn, noneLeft, oneMore, rowBytes, rowEnd, rowMore, secondByte, thirdByte, typeZero}
 use Rattle.diagnostics.specs.Channel.{Channel, channelOf, numberOf, typeOf}
 use Rattle.diagnostics.specs.Walk.{Placed, block, blockAt, bodyOf, channelIs, deviceAt, identifierAt, lengthOf, pictured, stepOf, walkOf, walkSteps, whole}
@@ -74,11 +74,10 @@ zero-type c f seven =
 module _ (pre rest : List ℕ) where
   -- the body of a block that stands behind others
   body-back : (header : ℕ) (body : List ℕ) → bodyOf (pre ++ (header ∷ (body ++ rest))) (length pre + 1) (length body) ≡ body
-  unfolding bodyOf
   body-back header body =
       let fits : length pre + 1 + length body ≤ length (pre ++ (header ∷ (body ++ rest))) = simp length-append (omega arith) in
       let size : length pre + 1 + length body - (length pre + 1) ≡ length body = omega arith in
-      rw (le-leb _ _ fits, drop-append-add, size, take-append-seam)
+      rw (shown-fits _ _ fits, drop-append-add, size, take-append-seam)
 
   -- a step at a block with a body finds it and goes on behind it
   step-sized : (header : ℕ) (body : List ℕ) → header % 64 ≡ suc (length body) → header / 64 < 2 → stepOf (pre ++ (header ∷ (body ++ rest))) (length pre) ≡ record { answer = block (blockAt (pre ++ (header ∷ (body ++ rest))) (length pre) header); cursor = length pre + suc (length body) }

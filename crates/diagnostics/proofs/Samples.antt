@@ -1,57 +1,12 @@
--- The samples of document 01 that are marked P, and what is answered to bad input of each kind, computed on the
--- definitions.
+-- What is answered to bad input of each kind, computed on the definitions.
 -- Assumes nothing.
 use mathlib.Core.Path.{_≡_, refl}
 use mathlib.Core.Bool.{true, false}
 use mathlib.Core.List.{[], _∷_}
-use Rattle.diagnostics.specs.Channel.{errorOf, typeOf}
-use Rattle.diagnostics.specs.Modules.{bitOf, modulesOf, setFrom}
-use Rattle.diagnostics.specs.Shown.{shownError, shownType}
+use Rattle.codes.specs.Part.{shownPart}
+use Rattle.diagnostics.specs.Modules.{bitOf}
 use Rattle.diagnostics.specs.Store.{fillOf, walkedOf}
-use Rattle.diagnostics.specs.Walk.{atEnd, block, blockAt, bodyOf, channelIs, deviceAt, headedBy, identifierAt, lengthOf, refusedAt, stepOf}
-use Rattle.diagnostics.specs.declared.channel.ChannelDataType.the-variants.{Bit}
-use Rattle.diagnostics.specs.declared.channel.ChannelError.the-variants.{LineBreak}
-
--- each walked from cursor 0; bytes hexadecimal
-pub record Samples : Type 0 where
-  -- 42 05: modules 0 and 2
-  pub modules : stepOf (0x42 ∷ 0x05 ∷ []) 0 ≡ record { answer = block (identifierAt 1 1); cursor = 2 }
-  pub modulesSet : setFrom (bodyOf (0x42 ∷ 0x05 ∷ []) 1 1) 0 ≡ 0 ∷ 2 ∷ []
-  -- 83 C1 26: module 3, channel 1, both, Bit, LineBreak
-  pub channel : stepOf (0x83 ∷ 0xC1 ∷ 0x26 ∷ []) 0
-      ≡ record {
-        answer = block (channelIs (record {
-          moduleNo = 3;
-          channelNo = 1;
-          input = true;
-          output = true;
-          dtype = shownType Bit;
-          error = shownError LineBreak;
-        }));
-        cursor = 3;
-      }
-  -- 40: 14
-  pub zeroLength : stepOf (0x40 ∷ []) 0 ≡ refusedAt 14 1
-  -- C0: 13
-  pub reservedHeader : stepOf (0xC0 ∷ []) 0 ≡ refusedAt 13 1
-  -- 43 01: 12
-  pub cutOff : stepOf (0x43 ∷ 0x01 ∷ []) 0 ≡ refusedAt 12 2
-  -- 01: empty device block
-  pub emptyDevice : stepOf (0x01 ∷ []) 0 ≡ record { answer = block (deviceAt 1 0); cursor = 1 }
-  pub emptyBody : bodyOf (0x01 ∷ []) 1 0 ≡ []
-
-pub samples : Samples
-unfolding stepOf headedBy blockAt lengthOf bodyOf typeOf errorOf setFrom modulesOf bitOf
-samples = record {
-  modules = refl;
-  modulesSet = refl;
-  channel = refl;
-  zeroLength = refl;
-  reservedHeader = refl;
-  cutOff = refl;
-  emptyDevice = refl;
-  emptyBody = refl;
-}
+use Rattle.diagnostics.specs.Walk.{atEnd, block, blockAt, bodyOf, deviceAt, headedBy, lengthOf, refusedAt, stepOf}
 
 -- bad input: what is kept and what is answered
 pub record BadInput : Type 0 where
@@ -75,7 +30,7 @@ pub record BadInput : Type 0 where
   pub noSuchModule : bitOf (0xFF ∷ []) 8 ≡ false
 
 pub bad-input : BadInput
-unfolding fillOf stepOf headedBy blockAt lengthOf bodyOf bitOf
+unfolding fillOf stepOf headedBy blockAt lengthOf shownPart bitOf
 bad-input = record {
   noStore = refl;
   noStoreNoData = refl;

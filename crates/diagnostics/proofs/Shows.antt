@@ -1,14 +1,14 @@
 -- What the promises say of an answer determines it: each definition of specs/Shown.antt takes different values to
 -- different ones, since another function takes each back.
 -- Assumes nothing.
-use mathlib.Core.Path.{_≡_, refl, ap, sym, _∙_}
+use mathlib.Core.Path.{_≡_, refl, ap}
 use mathlib.Core.List.{[], _∷_}
 use mathlib.Core.Option.{Option, none, some}
 use Prim.Native.Nat.{ℕ, _-_}
 use lib.ListN.{getD}
-use Rattle.codes.specs.Refusals.{numberOf}
-use Rattle.codes.specs.declared.refusal.Refusal.{Refusal}
-use Rattle.codes.specs.declared.refusal.Refusal.the-variants as refusals
+use Rattle.codes.proofs.NumberLaws.{answer-again, answerOf, injective}
+use Rattle.codes.specs.declared.refusal.Answer.{Answer}
+use Rattle.codes.specs.declared.refusal.Answer.the-variants as answers
 use Rattle.diagnostics.specs.Channel.{Channel, Error, named, reserved, vendor}
 use Rattle.diagnostics.specs.Shown.{shownBlock, shownChannel, shownError, shownFound, shownModule, shownStep, shownType}
 use Rattle.diagnostics.specs.Walk.{StepAnswer, Placed, Stepped, atEnd, block, channelIs, deviceAt, identifierAt, refused}
@@ -25,10 +25,6 @@ use Rattle.diagnostics.specs.declared.walk.Found.{Found}
 use Rattle.diagnostics.specs.declared.walk.Found.the-variants.{Block, End, Refused}
 use Rattle.diagnostics.specs.declared.walk.Step.{Step}
 
--- what is taken back is told apart
-told-apart : {A B : Type 0} (f : A → B) (back : B → A) → ((x : A) → back (f x) ≡ x) → (x y : A) → f x ≡ f y → x ≡ y
-told-apart f back again x y e = sym (again x) ∙ ap back e ∙ again y
-
 abbrev typeBack : ℕ → ChannelDataType
 typeBack n = getD (Bit ∷ Bit2 ∷ Bit4 ∷ Byte ∷ Word ∷ DWord ∷ Invalid ∷ []) (n - 1) Invalid
 
@@ -43,7 +39,7 @@ type-again Invalid = refl
 
 -- a type is its number's
 pub type-told : (x y : ChannelDataType) → shownType x ≡ shownType y → x ≡ y
-type-told = told-apart shownType typeBack type-again
+type-told = injective shownType typeBack type-again
 
 abbrev errorBack : Error → ChannelError
 errorBack (named n) = getD (errors.ShortCircuit ∷ errors.UnderVoltage ∷ errors.OverVoltage ∷ errors.OverLoad ∷ errors.OverTemperature ∷ errors.LineBreak ∷ errors.UpperLimitOvershoot ∷ errors.LowerLimitUndershoot ∷ errors.Error ∷ []) (n - 1) errors.Error
@@ -65,7 +61,7 @@ error-again (errors.Reserved n) = refl
 
 -- an error is its number's, within its sort
 pub error-told : (x y : ChannelError) → shownError x ≡ shownError y → x ≡ y
-error-told = told-apart shownError errorBack error-again
+error-told = injective shownError errorBack error-again
 
 abbrev channelBack : Channel → ChannelDiagnostics
 channelBack c = record {
@@ -81,7 +77,7 @@ channel-again : (x : ChannelDiagnostics) → channelBack (shownChannel x) ≡ x
 channel-again x = rw (type-again (x .dtype), error-again (x .error))
 
 pub channel-told : (x y : ChannelDiagnostics) → shownChannel x ≡ shownChannel y → x ≡ y
-channel-told = told-apart shownChannel channelBack channel-again
+channel-told = injective shownChannel channelBack channel-again
 
 moduleBack : Option ℕ → Module
 moduleBack none = Nothing
@@ -93,34 +89,7 @@ module-again Nothing = refl
 module-again (At n) = refl
 
 pub module-told : (x y : Module) → shownModule x ≡ shownModule y → x ≡ y
-module-told = told-apart shownModule moduleBack module-again
-
-abbrev refusalBack : ℕ → Refusal
-refusalBack n = getD (refusals.UnknownStart ∷ refusals.LengthsDiffer ∷ refusals.LengthTooSmall ∷ refusals.FunctionCode ∷ refusals.SapMissing ∷ refusals.Checksum ∷ refusals.EndDelimiter ∷ refusals.AddressTooLarge ∷ refusals.TooLong ∷ refusals.NoRoom ∷ refusals.NotAStation ∷ refusals.BlockCutOff ∷ refusals.BlockReserved ∷ refusals.BlockLengthZero ∷ refusals.CycleInactive ∷ refusals.OrderLength ∷ refusals.OrderPending ∷ refusals.LinkAddresses ∷ refusals.Tries ∷ refusals.SettingsForm ∷ refusals.NoReplyOwed ∷ refusals.InputTooLong ∷ []) (n - 1) refusals.InputTooLong
-
-refusal-again : (x : Refusal) → refusalBack (numberOf x) ≡ x
-refusal-again refusals.UnknownStart = refl
-refusal-again refusals.LengthsDiffer = refl
-refusal-again refusals.LengthTooSmall = refl
-refusal-again refusals.FunctionCode = refl
-refusal-again refusals.SapMissing = refl
-refusal-again refusals.Checksum = refl
-refusal-again refusals.EndDelimiter = refl
-refusal-again refusals.AddressTooLarge = refl
-refusal-again refusals.TooLong = refl
-refusal-again refusals.NoRoom = refl
-refusal-again refusals.NotAStation = refl
-refusal-again refusals.BlockCutOff = refl
-refusal-again refusals.BlockReserved = refl
-refusal-again refusals.BlockLengthZero = refl
-refusal-again refusals.CycleInactive = refl
-refusal-again refusals.OrderLength = refl
-refusal-again refusals.OrderPending = refl
-refusal-again refusals.LinkAddresses = refl
-refusal-again refusals.Tries = refl
-refusal-again refusals.SettingsForm = refl
-refusal-again refusals.NoReplyOwed = refl
-refusal-again refusals.InputTooLong = refl
+module-told = injective shownModule moduleBack module-again
 
 abbrev blockBack : Placed → ExtDiagBlock
 blockBack (identifierAt start size) = blocks.Identifier (record { start = start; len = size })
@@ -132,15 +101,20 @@ block-again (blocks.Identifier body) = refl
 block-again (blocks.Device body) = refl
 block-again (blocks.Channel c) = ap blocks.Channel (channel-again c)
 
+-- a refusal comes back through the answer that its number stands for
+abbrev refusing : Answer → Found
+refusing answers.Done = End
+refusing (answers.Refused r) = Refused r
+
 abbrev foundBack : StepAnswer → Found
 foundBack (block p) = Block (blockBack p)
 foundBack atEnd = End
-foundBack (refused n) = Refused (refusalBack n)
+foundBack (refused n) = refusing (answerOf n)
 
 found-again : (x : Found) → foundBack (shownFound x) ≡ x
 found-again (Block b) = ap Block (block-again b)
 found-again End = refl
-found-again (Refused r) = ap Refused (refusal-again r)
+found-again (Refused r) = ap refusing (answer-again (answers.Refused r))
 
 abbrev stepBack : Stepped → Step
 stepBack s = record { found = foundBack (s .answer); iter = record { cursor = s .cursor } }
@@ -150,4 +124,4 @@ step-again x = rw (found-again (x .found))
 
 -- what `next` promises fits one answer alone
 pub step-told : (x y : Step) → shownStep x ≡ shownStep y → x ≡ y
-step-told = told-apart shownStep stepBack step-again
+step-told = injective shownStep stepBack step-again

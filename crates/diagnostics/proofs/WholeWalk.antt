@@ -6,10 +6,10 @@ use Prim.Native.Nat.{ℕ, zero, suc, _+_, _-_, _/_, _%_, _≤_, _<_}
 use native.Mathlib.Decide.{ℕ-discrete}
 use native.Mathlib.Numerals.{add-one}
 use native.Mathlib.Omega.{arith}
-use borrow.Author.Tests.{le-leb}
 use lib.Dec.{eqb}
 use lib.ListN.{length, take, drop, drop-of-length-le, length-drop, length-take, take-append-drop}
 use lib.Seq.{drop-cons, drop-drop}
+use Rattle.codes.proofs.PartLaws.{shown-fits}
 use Rattle.codes.specs.Part.{byteAt, part}
 use Rattle.diagnostics.specs.Blocks.{Block, ChannelFits, Fitting, RowSays, Says, bit, blockBytes, channel, channelFits, device, deviceFits, firstByte, identifier, identifierFits, itsOwn, rowEnd, rowMore, secondByte, thirdByte, typeZero}
 use Rattle.diagnostics.specs.Channel.{Channel, channelOf, errorOf, numberOf, typeOf}
@@ -90,8 +90,7 @@ part-length s start size h = simp (length-take, length-drop) (omega arith)
 
 -- a body that lies within is that part
 body-part : (s : List ℕ) (start size : ℕ) → start + size ≤ length s → bodyOf s start size ≡ part s start (start + size)
-unfolding bodyOf
-body-part s start size h = rw (le-leb _ _ h)
+body-part s start size h = shown-fits _ _ h
 
 -- a header with its body says the block of its kind
 module _ (s : List ℕ) (at n header : ℕ) (head : byteAt s at ≡ header) (room : at + 1 + n ≤ length s) where

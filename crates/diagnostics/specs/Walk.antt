@@ -5,7 +5,7 @@ use mathlib.Core.List.{List, [], _∷_}
 use lib.ListN.{length}
 use lib.Dec.{leb, ltb, eqb}
 use Rattle.codes.specs.Pick.{if}
-use Rattle.codes.specs.Part.{part, byteAt}
+use Rattle.codes.specs.Part.{byteAt, shownPart}
 use Rattle.diagnostics.specs.Blocks.{Block, identifier, device, channel}
 use Rattle.diagnostics.specs.Channel.{Channel, channelOf}
 
@@ -54,8 +54,8 @@ unfoldable pub stepOf : List ℕ → ℕ → Stepped
 stepOf s at = if (leb (length s) at) (record { answer = atEnd; cursor = at }) (headedBy s at (byteAt s at))
 
 -- an identifier or device block's body is that part of the walked buffer; the empty part where it does not fit
-unfoldable pub bodyOf : List ℕ → ℕ → ℕ → List ℕ
-bodyOf s start size = if (leb (start + size) (length s)) (part s start (start + size)) []
+abbrev pub bodyOf : List ℕ → ℕ → ℕ → List ℕ
+bodyOf s start size = shownPart (record { start = start; len = size }) s
 
 -- a block with its body's bytes
 abbrev pub pictured : List ℕ → Placed → Block

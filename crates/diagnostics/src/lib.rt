@@ -11,7 +11,6 @@ pub use channel::ChannelError;
 pub use modules::Module;
 pub use store::ExtendedDiagnostics;
 pub use store::Filled;
-pub use walk::Body;
 pub use walk::ExtDiagBlock;
 pub use walk::ExtDiagBlockIter;
 pub use walk::Found;

@@ -1,8 +1,6 @@
 use crate::walk::ExtDiagBlockIter;
+use buffers::copy_to_front;
 ghost use mathlib.Core.Path.{_≡_};
-ghost use Prim.Native.Nat.{_≤_};
-ghost use mathlib.Core.List.{_++_};
-ghost use lib.ListN.{length, drop};
 ghost use Rattle.diagnostics.specs.Store.{availableOf, fillOf, walkedOf};
 
 // Container for extended diagnostics data: how many bytes at the front of the store that the caller lends are
@@ -74,21 +72,10 @@ impl ExtendedDiagnostics {
         if buffer.len() < buf.len() {
             return kept;
         }
-        copy_from_slice(buffer, buf);
+        copy_to_front(buf, buffer);
         Filled {
             filled: true,
             diag: ExtendedDiagnostics { length: buf.len() },
         }
-    }
-}
-
-fn copy_from_slice(buffer: &mut [u8], buf: &[u8])
-    requires { ⌜ length (now buf) ≤ length (now buffer) ⌝ }
-    ensures { λ _. ⌜ now (buffer .exit) ≡ now (buf .entry) ++ drop (length (now (buf .entry))) (now (buffer .entry)) ⌝ }
-{
-    let mut i = 0;
-    while i < buf.len() {
-        buffer[i] = buf[i];
-        i += 1;
     }
 }

@@ -1,5 +1,6 @@
 use crate::channel::ChannelDiagnostics;
 use crate::store::ExtendedDiagnostics;
+use codes::Part;
 use codes::Refusal;
 ghost use mathlib.Core.Path.{_≡_};
 ghost use Prim.Native.Nat.{ℕ, _+_, _≤_, _<_, _/_, _%_, _^_};
@@ -8,46 +9,16 @@ ghost use lib.ListN.{length};
 ghost use Rattle.codes.specs.Refusals.{numberOf};
 ghost use Rattle.diagnostics.specs.Shown.{shownBlock, shownStep};
 ghost use Rattle.diagnostics.specs.Store.{walkedOf};
-ghost use Rattle.diagnostics.specs.Walk.{blockAt, bodyOf, headedBy, refusedAt, stepOf};
+ghost use Rattle.diagnostics.specs.Walk.{blockAt, headedBy, refusedAt, stepOf};
 
-// The body of an identifier or device block: where it starts in what was walked, and how long it is.
-pub struct Body {
-    pub start: usize,
-    pub len: usize,
-}
-
-impl Body {
-    // The body's bytes, or the empty part at the end of what is walked where it does not fit.
-    pub fn show(self, diag: ExtendedDiagnostics, buffer: &[u8]) -> &[u8]
-        ensures { λ r. ⌜ now r ≡ bodyOf (walkedOf (diag .length) (now (buffer .entry))) (self .start) (self .len) ⌝ }
-    {
-        let start = self.start;
-        let len = self.len;
-        part(diag.raw_diag_buffer(buffer), start, len)
-    }
-}
-
-fn part(raw: &[u8], start: usize, len: usize) -> &[u8]
-    ensures { λ r. ⌜ now r ≡ bodyOf (now (raw .entry)) start len ⌝ }
-{
-    let end = raw.len();
-    if end < start {
-        return &raw[end..];
-    }
-    if end - start < len {
-        return &raw[end..];
-    }
-    &raw[start..start + len]
-}
-
-// One extended diagnostics block.
+// One extended diagnostics block. A body is the part of what is walked that it says: `body.show(diag.raw_diag_buffer(buffer))`.
 pub enum ExtDiagBlock {
     // Identifier-based diagnostics: a bit for each module, set where the module reports a problem.
-    Identifier(Body),
+    Identifier(Part),
     // Channel-based diagnostics.
     Channel(ChannelDiagnostics),
     // Device-based diagnostics, to be interpreted with the device's GSD file.
-    Device(Body),
+    Device(Part),
 }
 
 // What a step of the walk finds.
@@ -135,7 +106,7 @@ fn sized_block(cursor: usize, header: u8, kind: u8) -> ExtDiagBlock
     requires { ⌜ (cursor + 1 < 2 ^ 64) × (header / 64 ≡ kind) × (kind < 2) × (1 ≤ header % 64) ⌝ }
     ensures { λ r. ⌜ ((s : List ℕ) → shownBlock r ≡ blockAt s cursor header) ⌝ }
 {
-    let body = Body {
+    let body = Part {
         start: cursor + 1,
         len: block_size(header) - 1,
     };

@@ -92,6 +92,35 @@ impl Initiator {
         Initiator::new(own, peer, DEFAULT_TRIES)
     }
 
+    // The record of these parts, each as it is. With `order` and the questions below it takes a record through a form that another language
+    // can hold; every call answers every record.
+    pub fn from_parts(
+        own: Address,
+        peer: Address,
+        tries: u8,
+        phase: Phase,
+        order: [u8; 246],
+        len: usize,
+    ) -> Initiator
+        ensures { λ r. ⌜ r ≡ record { own = own; peer = peer; tries = tries; phase = phase; order = order; len = len } ⌝ }
+    {
+        Initiator {
+            own,
+            peer,
+            tries,
+            phase,
+            order,
+            len,
+        }
+    }
+
+    // The pending order is the first `order_len` bytes of this.
+    pub fn order(self) -> [u8; 246]
+        ensures { λ r. ⌜ r ≡ self .order ⌝ }
+    {
+        self.order
+    }
+
     pub fn own(self) -> Address
         ensures { λ r. ⌜ r ≡ self .own ⌝ }
     {

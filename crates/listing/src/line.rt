@@ -120,7 +120,7 @@ fn put_end_name(buf: &mut [u8], to: usize, end: End) -> usize
 }
 
 // A byte as a number of another width.
-pub fn wide(byte: u8) -> usize
+pub(crate) fn wide(byte: u8) -> usize
     ensures { λ r. ⌜ r ≡ byte ⌝ }
 {
     byte as usize
@@ -134,7 +134,7 @@ fn put_end(buf: &mut [u8], to: usize, end: End, at: usize) -> usize
     text::put_byte(buf, feed, b'\n')
 }
 
-pub fn put_said(buf: &mut [u8], to: usize, said: Said) -> usize
+pub(crate) fn put_said(buf: &mut [u8], to: usize, said: Said) -> usize
     ensures { λ r. ⌜ Placed (now (buf .entry)) to (saidText said) r (now (buf .exit)) ⌝ }
 {
     match said {

@@ -123,7 +123,7 @@ fn said_of(at: usize, bytes: &[u8]) -> Said
     }
 }
 
-pub fn said_at(input: &[u8], at: usize) -> Said
+pub(crate) fn said_at(input: &[u8], at: usize) -> Said
     requires { ⌜ at ≤ length (now input) ⌝ }
     ensures { λ r. ⌜ r ≡ saidOf at (drop at (now (input .entry))) ⌝ }
 {

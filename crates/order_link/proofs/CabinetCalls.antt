@@ -34,14 +34,14 @@ use Rattle.order_link.proofs.HeadCalls.{both}
 use Rattle.order_link.proofs.Views.{bitSeen, stateSeen, rowSeen, responderSeen, OfResponder, ofResponder}
 use Rattle.order_link.specs.OrderLink.{cabinetTurn}
 use Rattle.responder.proofs.CallLaws.{Linked, ok-written, reply-written}
-use Rattle.responder.proofs.RowLaws.{held-answer}
+use Rattle.responder_row.proofs.RowLaws.{held-answer}
 use Rattle.responder.specs.Calls as call
 use Rattle.responder.specs.Calls.{hearOf, answerOf, restartOf}
 use Rattle.responder.specs.Records.{blankOf, madeOf}
-use Rattle.responder.specs.Rows.{heldOf, sameBit, wrongLength, holding, rowHears, rowAnswers, answersIn, orderOn, storedBit}
-use Rattle.responder.specs.declared.row.Row.{Row}
-use Rattle.responder.specs.declared.row.RowState.{RowState}
-use Rattle.responder.specs.declared.row.RowState.the-variants.{Blank, Opened, Owes, Holds}
+use Rattle.responder_row.specs.Rows.{heldOf, sameBit, wrongLength, holding, rowHears, rowAnswers, answersIn, orderOn, storedBit}
+use Rattle.responder_row.specs.declared.row.Row.{Row}
+use Rattle.responder_row.specs.declared.row.RowState.{RowState}
+use Rattle.responder_row.specs.declared.row.RowState.the-variants.{Blank, Opened, Owes, Holds}
 use Rattle.responder.specs.declared.state.Responder.{Responder}
 
 -- is it the stored bit, by the state of the row

@@ -24,7 +24,7 @@ use Rattle.link_telegrams.specs.Heard.{fromPeerOf, requestHeardOf, replyHeardOf
 use Rattle.order_link.specs.OrderLink.{bearsBoth, orderLink}
 use Rattle.responder.specs.Calls as cabinet
 use Rattle.responder.specs.Records as cabinetRecord
-use Rattle.responder.specs.Rows.{rowHears, rowAnswers}
+use Rattle.responder_row.specs.Rows.{rowHears, rowAnswers}
 use Rattle.telegram.specs.Picture.{headBytes, coveredBytes, lengthByte, startBytes, telegramBytes}
 use Rattle.telegram.specs.Reading.{headerAt, sapsAt, contentOf, frameOf, lengthsOf, dataOf, tokenOf, readOf}
 use Rattle.telegram_tx.specs.Writing.{sendOf, writeOf}

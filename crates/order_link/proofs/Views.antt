@@ -16,10 +16,10 @@ use Rattle.link.specs.Responder.{Row, blank, opened, owes, holds}
 use Rattle.link_telegrams.specs.Headers.{cycledBit}
 use Rattle.link_telegrams.specs.declared.headers.Bit.{Bit}
 use Rattle.link_telegrams.specs.declared.headers.Bit.the-variants.{Low, High}
-use Rattle.responder.specs.Rows.{heldOf}
-use Rattle.responder.specs.declared.row.Row as row
-use Rattle.responder.specs.declared.row.RowState.{RowState}
-use Rattle.responder.specs.declared.row.RowState.the-variants.{Blank, Opened, Owes, Holds}
+use Rattle.responder_row.specs.Rows.{heldOf}
+use Rattle.responder_row.specs.declared.row.Row as row
+use Rattle.responder_row.specs.declared.row.RowState.{RowState}
+use Rattle.responder_row.specs.declared.row.RowState.the-variants.{Blank, Opened, Owes, Holds}
 use Rattle.responder.specs.declared.state.Responder.{Responder}
 
 abbrev pub bitSeen : Bit → message.Bit

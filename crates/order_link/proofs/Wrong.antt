@@ -33,7 +33,7 @@ use Rattle.order_link.proofs.Runs.{link, room, opening, ok, order}
 use Rattle.order_link.specs.OrderLink.{headTurn, cabinetTurn, bearsBoth}
 use Rattle.responder.specs.Calls as cabinet
 use Rattle.responder.specs.Records as cabinetRecord
-use Rattle.responder.specs.Rows.{rowHears}
+use Rattle.responder_row.specs.Rows.{rowHears}
 use Rattle.responder.specs.declared.state.Responder.{Responder}
 use Rattle.telegram.specs.Picture.{headBytes, coveredBytes, lengthByte, startBytes, telegramBytes}
 use Rattle.telegram.specs.Reading.{Reading, whole, incomplete, refused, headerAt, sapsAt, contentOf, frameOf, lengthsOf, dataOf, tokenOf, readOf}

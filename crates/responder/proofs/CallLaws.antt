@@ -16,10 +16,10 @@ use Rattle.link_telegrams.specs.Headers.{okHeader, replyHeader}
 use Rattle.link_telegrams.specs.Heard.{requestHeardOf}
 use Rattle.responder.specs.Calls.{Turn, sent, refusing, saysOf, wrote, writesOf, writesOkOf, writesReplyOf, actsOf, hearIn, hearOf, answerIn, answerOf}
 use Rattle.responder.specs.Records.{Made, blankOf, noStation, madeOf}
-use Rattle.responder.specs.Rows.{heldOf, rowHears, rowAnswers}
-use Rattle.responder.specs.declared.row.Row.{Row}
-use Rattle.responder.specs.declared.row.RowAction.{RowAction}
-use Rattle.responder.specs.declared.row.RowAction.the-variants as action
+use Rattle.responder_row.specs.Rows.{heldOf, rowHears, rowAnswers}
+use Rattle.responder_row.specs.declared.row.Row.{Row}
+use Rattle.responder_row.specs.declared.row.RowAction.{RowAction}
+use Rattle.responder_row.specs.declared.row.RowAction.the-variants as action
 use Rattle.responder.specs.declared.state.Responder.{Responder}
 use Rattle.telegram.specs.Picture.{lengthByte, telegramBytes}
 use Rattle.telegram.specs.declared.header.DataTelegramHeader.{DataTelegramHeader}

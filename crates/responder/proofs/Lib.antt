@@ -1,3 +1,2 @@
 pub mod CallLaws
-pub mod RowLaws
 pub mod Scenes

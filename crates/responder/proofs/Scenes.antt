@@ -12,7 +12,7 @@ use Rattle.link_telegrams.specs.Headers.{okHeader, replyHeader}
 use Rattle.link_telegrams.specs.Heard.{fromPeerOf, requestHeardOf}
 use Rattle.responder.specs.Calls.{Turn, sent, handUp, nothing, refused, hearOf, answerOf, restartOf}
 use Rattle.responder.specs.Records.{blankOf}
-use Rattle.responder.specs.Rows.{rowHears, rowAnswers}
+use Rattle.responder_row.specs.Rows.{rowHears, rowAnswers}
 use Rattle.responder.specs.declared.state.Responder.{Responder}
 use Rattle.telegram.specs.Picture.{headBytes, coveredBytes, lengthByte, startBytes, telegramBytes}
 use Rattle.telegram.specs.Reading.{headerAt, sapsAt, contentOf, frameOf, lengthsOf, dataOf, tokenOf, readOf}

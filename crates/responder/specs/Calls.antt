@@ -11,14 +11,14 @@ use Rattle.codes.specs.declared.part.Part.{Part}
 use Rattle.link_telegrams.specs.Headers.{okHeader, replyHeader}
 use Rattle.link_telegrams.specs.Heard.{requestHeardOf}
 use Rattle.responder.specs.Records.{blankOf}
-use Rattle.responder.specs.Rows.{heldOf, rowHears, rowAnswers}
+use Rattle.responder_row.specs.Rows.{heldOf, rowHears, rowAnswers}
 use Rattle.responder.specs.declared.calls.ResponderAnswer.{ResponderAnswer}
 use Rattle.responder.specs.declared.calls.ResponderAnswer.the-variants as answer
 use Rattle.responder.specs.declared.calls.ResponderTurn.{ResponderTurn}
-use Rattle.responder.specs.declared.row.Row.{Row}
-use Rattle.responder.specs.declared.row.RowAction.{RowAction}
-use Rattle.responder.specs.declared.row.RowAction.the-variants as action
-use Rattle.responder.specs.declared.row.RowTurn.{RowTurn}
+use Rattle.responder_row.specs.declared.row.Row.{Row}
+use Rattle.responder_row.specs.declared.row.RowAction.{RowAction}
+use Rattle.responder_row.specs.declared.row.RowAction.the-variants as action
+use Rattle.responder_row.specs.declared.row.RowTurn.{RowTurn}
 use Rattle.responder.specs.declared.state.Responder.{Responder}
 use Rattle.telegram.specs.declared.header.DataTelegramHeader.{DataTelegramHeader}
 use Rattle.telegram_tx.specs.Writing.{writeOf, bufferOf}

@@ -6,7 +6,7 @@ use lib.Dec.{eqb, ltb}
 use Rattle.codes.specs.Pick.{if}
 use Rattle.codes.specs.Refusals.{shown}
 use Rattle.codes.specs.declared.address.Address.{Address}
-use Rattle.responder.specs.Rows.{blankRow}
+use Rattle.responder_row.specs.Rows.{blankRow}
 use Rattle.responder.specs.declared.state.Responder.{Responder}
 use Rattle.responder.specs.declared.state.ResponderMade.{ResponderMade}
 

@@ -6,12 +6,12 @@ ghost use Rattle.responder.specs.Calls.{shownSaid, shownTurn, refusing, 
 ghost use Rattle.telegram_tx.specs.Writing.{shownWriting};
 use crate::calls::ResponderAnswer;
 use crate::calls::ResponderTurn;
-use crate::row::Row;
-use crate::row::RowAction;
 use crate::state::Responder;
 use codes::Refusal;
 use link_telegrams::ok_header;
 use link_telegrams::reply_header;
+use responder_row::Row;
+use responder_row::RowAction;
 use telegram_tx::TelegramTxResult;
 use telegram_tx::send_data_telegram;
 
@@ -69,7 +69,7 @@ pub(crate) fn write_reply(given: Responder, row: Row, reply: &[u8], buf: &mut [u
 fn write_held(given: Responder, row: Row, buf: &mut [u8]) -> ResponderTurn
     ensures { λ r. ⌜ shownTurn r (now (buf .exit)) ≡ writesHeldOf given row (now (buf .entry)) ⌝ }
 {
-    let held = row.held;
+    let held = row.held();
     let len = row.held_len();
     write_reply(given, row, &held[..len], buf)
 }

@@ -1,9 +1,9 @@
 ghost use mathlib.Core.Path.{_≡_};
 ghost use Rattle.responder.specs.Records.{blankOf, noStation, shownMade, madeOf};
-use crate::row::Row;
 use codes::Address;
 use codes::Answer;
 use codes::Refusal;
+use responder_row::Row;
 
 pub struct Responder {
     pub(crate) own: Address,
@@ -51,6 +51,13 @@ impl Responder {
             answer: Answer::Done,
             responder,
         }
+    }
+
+    // The record of these parts, each as it is.
+    pub fn from_parts(own: Address, peer: Address, row: Row) -> Responder
+        ensures { λ r. ⌜ r ≡ record { own = own; peer = peer; row = row } ⌝ }
+    {
+        Responder { own, peer, row }
     }
 
     pub fn own(self) -> Address

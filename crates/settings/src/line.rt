@@ -11,7 +11,7 @@ pub enum Line {
 }
 
 // The line at a place whose number's name, with its `=`, is given.
-pub fn get_line(text: &[u8], at: usize, name: &[u8]) -> Line
+pub(crate) fn get_line(text: &[u8], at: usize, name: &[u8]) -> Line
     ensures { λ r. ⌜ r ≡ lineAt (now (name .entry)) (now (text .entry)) at ⌝ }
 {
     if !text::begins_at(text, at, name) {
@@ -34,7 +34,7 @@ pub fn get_line(text: &[u8], at: usize, name: &[u8]) -> Line
     }
 }
 
-pub fn put_line(buf: &mut [u8], at: usize, name: &[u8], value: u8) -> usize
+pub(crate) fn put_line(buf: &mut [u8], at: usize, name: &[u8], value: u8) -> usize
     ensures { λ r. ⌜ Placed (now (buf .entry)) at (lineOf (now (name .entry)) value) r (now (buf .exit)) ⌝ }
 {
     let number = text::put_bytes(buf, at, name);

@@ -8,4 +8,3 @@ pub mod Samples
 pub mod Theorems
 pub mod TopBitLaws
 pub mod WrittenLaws
-pub mod WrongReaders

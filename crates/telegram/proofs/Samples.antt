@@ -1,4 +1,4 @@
--- The samples of reading, computed on the definitions.
+-- The smallest inputs that are read beyond the standard, computed on the definitions.
 -- Assumes nothing.
 use Prim.Native.Nat.{ℕ, _≤_}
 use mathlib.Core.List.{List, _∷_, _++_, append-assoc}
@@ -14,24 +14,10 @@ use Rattle.telegram.specs.Begins.{standard, StartOf, withSD1, withSD2, w
 use Rattle.telegram.specs.Delimiters.{SD1, SD2, ED}
 use Rattle.telegram.specs.Picture.{headWith}
 use Rattle.telegram.specs.Reading.{headerAt, sapsAt, contentOf, frameOf, lengthsOf, dataOf, tokenOf, whole, readOf}
-use Rattle.telegram.specs.Samples.{ReadingSamples, Beyond, BeyondTheStandard}
+use Rattle.telegram.specs.Samples.{Beyond, BeyondTheStandard}
 use Rattle.telegram.specs.declared.header.DataTelegramHeader.{DataTelegramHeader}
 use Rattle.telegram.specs.declared.kinds.DataTelegram.{DataTelegram}
 use Rattle.telegram.specs.declared.kinds.Telegram.the-variants.{Data}
-
--- Document 01's samples of reading that are marked P.
-pub reading-samples : ReadingSamples
-unfolding sumOf checksumOf functionCodeOf requestTypeOf stateOf statusOf headerAt sapsAt contentOf frameOf lengthsOf dataOf tokenOf readOf
-reading-samples =
-    record {
-      order = refl;
-      lastByte17 = refl;
-      sum66 = refl;
-      saps = refl;
-      lengthsDiffer = refl;
-      tooFew = refl;
-      lengthTwo = refl;
-    }
 
 -- By the standard, an SD2 telegram's L and fourth byte lie within its bounds.
 start-bounds : {l : ℕ} {start : List ℕ} → StartOf standard l start → (q : List ℕ) → byteAt (start ++ q) 0 ≡ SD2 → (4 ≤ byteAt (start ++ q) 1) × (byteAt (start ++ q) 1 ≤ 249) × (byteAt (start ++ q) 3 ≡ SD2)

@@ -35,6 +35,15 @@ pub start-else : (l : ℕ) → (l ≡ 3 → ⊥) → (l ≡ 11 → ⊥) → leng
 unfolding startBytes
 start-else l p q = rw (ne-eqb l 3 p, ne-eqb l 11 q)
 
+start-some-of : (a b : Bool) (x y z : List ℕ) → 1 ≤ length x → 1 ≤ length y → 1 ≤ length z → 1 ≤ length (if a x (if b y z))
+start-some-of true b x y z p q r = p
+start-some-of false true x y z p q r = q
+start-some-of false false x y z p q r = r
+
+pub start-some : (l : ℕ) → 1 ≤ length (startBytes l)
+unfolding startBytes
+start-some l = start-some-of (eqb l 3) (eqb l 11) _ _ _ (lit≤ tt) (lit≤ tt) (lit≤ tt)
+
 start-within : (a b : Bool) (x y z : List ℕ) → length x ≤ 4 → length y ≤ 4 → length z ≤ 4 → length (if a x (if b y z)) ≤ 4
 start-within true b x y z p q r = p
 start-within false true x y z p q r = q

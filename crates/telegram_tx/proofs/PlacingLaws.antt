@@ -14,7 +14,7 @@ use Rattle.telegram.specs.Delimiters.{ED}
 use Rattle.telegram.specs.Picture.{headBytes, coveredBytes, lengthByte, startBytes, telegramBytes}
 use Rattle.telegram.specs.declared.header.DataTelegramHeader.{DataTelegramHeader}
 use Rattle.telegram_tx.proofs.LengthLaws.{length-byte-split, telegram-length}
-use Rattle.telegram_tx.specs.Placing.{Placed, Covers}
+use Rattle.telegram_tx.specs.Placing.{Placed, Covers, Fitted, cramped, fitting}
 use Rattle.telegram_tx.specs.declared.put.Place.{Place}
 
 -- Bytes stored one by one from a place on.
@@ -56,6 +56,15 @@ covers-then b place p q r₁ r₂ b₁ b₂ h x y =
 -- A write at the buffer's front.
 pub front-placed : (b t : List ℕ) (r : ℕ) (after : List ℕ) → Placed b 0 t r after → (r ≡ length t) × (after ≡ t ++ drop (length t) b)
 front-placed b t r after x = (rw zero-add at (x .next-place), rw zero-add at (x .buffer))
+
+-- A place of 0 behind bytes tells that there was no room for them, and any other place that there was.
+pub told-cramped : {b : List ℕ} {room : ℕ} {p : List ℕ} {r : ℕ} {after : List ℕ} → Fitted b room p r after → 1 ≤ length p → r ≡ 0 → (length b < room) × (after ≡ b)
+told-cramped (cramped short _ same) some none = (short, same)
+told-cramped (fitting _ x) some none = absurd (omega (arith, x .next-place))
+
+pub told-fitting : {b : List ℕ} {room : ℕ} {p : List ℕ} {r : ℕ} {after : List ℕ} → Fitted b room p r after → (r ≡ 0 → ⊥) → (room ≤ length b) × Placed b 0 p r after
+told-fitting (cramped _ none _) some = absurd (some none)
+told-fitting (fitting fits x) some = (fits, x)
 
 -- A byte stored and added.
 pub byte-covered : (b : List ℕ) (place : Place) (x : ℕ) (r : Place) → place .at + 1 ≤ length b → r .at ≡ place .at + 1 → r .sum ≡ (place .sum + x) % 256 → Covers b place (x ∷ []) r (set b (place .at) x)

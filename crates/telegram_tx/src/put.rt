@@ -15,7 +15,7 @@ pub struct Place {
     pub sum: u8,
 }
 
-pub fn put_byte(buf: &mut [u8], place: Place, b: u8) -> Place
+pub(crate) fn put_byte(buf: &mut [u8], place: Place, b: u8) -> Place
     requires { ⌜ place .at + 1 ≤ length (now buf) ⌝ }
     ensures { λ r. ⌜ Covers (now (buf .entry)) place (b ∷ []) r (now (buf .exit)) ⌝ }
 {
@@ -28,7 +28,7 @@ pub fn put_byte(buf: &mut [u8], place: Place, b: u8) -> Place
 }
 
 // An address, whose top bit announces its SAP.
-pub fn put_address(buf: &mut [u8], place: Place, address: Address, sap: SapOption) -> Place
+pub(crate) fn put_address(buf: &mut [u8], place: Place, address: Address, sap: SapOption) -> Place
     requires { ⌜ (address .0 ≤ 127) × (place .at + 1 ≤ length (now buf)) ⌝ }
     ensures { λ r. ⌜ Covers (now (buf .entry)) place (addressByte (address .0) sap ∷ []) r (now (buf .exit)) ⌝ }
 {
@@ -38,7 +38,7 @@ pub fn put_address(buf: &mut [u8], place: Place, address: Address, sap: SapOptio
     }
 }
 
-pub fn put_sap(buf: &mut [u8], place: Place, sap: SapOption) -> Place
+pub(crate) fn put_sap(buf: &mut [u8], place: Place, sap: SapOption) -> Place
     requires { ⌜ place .at + length (sapBytes sap) ≤ length (now buf) ⌝ }
     ensures { λ r. ⌜ Covers (now (buf .entry)) place (sapBytes sap) r (now (buf .exit)) ⌝ }
 {
@@ -64,7 +64,7 @@ fn copy_sum(src: &[u8], sum: u8, dst: &mut [u8]) -> u8
 }
 
 // The part of the buffer behind the header is lent to the copying leaf.
-pub fn put_pdu(buf: &mut [u8], place: Place, pdu: &[u8]) -> Place
+pub(crate) fn put_pdu(buf: &mut [u8], place: Place, pdu: &[u8]) -> Place
     requires { ⌜ place .at + length (now pdu) ≤ length (now buf) ⌝ }
     ensures { λ r. ⌜ Covers (now (buf .entry)) place (now (pdu .entry)) r (now (buf .exit)) ⌝ }
 {

@@ -3,9 +3,9 @@ ghost use mathlib.Core.List.{[], _∷_};
 ghost use Prim.Native.Nat.{_+_, _≤_};
 ghost use lib.ListN.{length};
 ghost use Rattle.codes.specs.FunctionCodes.{codeByte};
-ghost use Rattle.telegram.specs.Delimiters.{ED};
+ghost use Rattle.telegram.specs.Delimiters.{ED, SD2};
 ghost use Rattle.telegram.specs.Picture.{addressByte, sapBytes, headBytes, lengthByte, startBytes, telegramBytes};
-ghost use Rattle.telegram_tx.specs.Placing.{Placed, Covers, Writable};
+ghost use Rattle.telegram_tx.specs.Placing.{Placed, Covers, Fitted, Writable};
 use crate::put::Place;
 use crate::put::put_address;
 use crate::put::put_byte;
@@ -27,7 +27,7 @@ fn sap_length(sap: SapOption) -> usize
     }
 }
 
-pub fn length_byte(header: DataTelegramHeader, pdu: &[u8]) -> usize
+pub(crate) fn length_byte(header: DataTelegramHeader, pdu: &[u8]) -> usize
     ensures { λ r. ⌜ r ≡ lengthByte header (now (pdu .entry)) ⌝ }
 {
     let dsap = header.dsap;
@@ -35,32 +35,40 @@ pub fn length_byte(header: DataTelegramHeader, pdu: &[u8]) -> usize
     pdu.len() + sap_length(dsap) + sap_length(ssap) + 3
 }
 
-// The length of a whole telegram: its start, what the length byte counts, the checksum and the end delimiter.
-pub fn total_length(l: usize) -> usize
+// The start of a telegram with length byte l, where the whole of it has room. Else nothing is written, and 0 given. The room is tested here,
+// beside the form of the start on which it depends, so that the form is told once.
+fn put_start(buf: &mut [u8], l: usize) -> usize
     requires { ⌜ l ≤ 249 ⌝ }
-    ensures { λ r. ⌜ r ≡ length (startBytes l) + l + 2 ⌝ }
+    ensures { λ r. ⌜ Fitted (now (buf .entry)) (length (startBytes l) + l + 2) (startBytes l) r (now (buf .exit)) ⌝ }
 {
-    match l {
-        3 => 6,
-        11 => 14,
-        _ => l + 6,
-    }
-}
-
-fn put_start(buf: &mut [u8], l: u8) -> usize
-    requires { ⌜ 4 ≤ length (now buf) ⌝ }
-    ensures { λ r. ⌜ Placed (now (buf .entry)) 0 (startBytes l) r (now (buf .exit)) ⌝ }
-{
+    let room = buf.len();
     // no PDU
     if l == 3 {
+        if room < 6 {
+            return 0;
+        }
         buf[0] = SD1;
         return 1;
     }
     // exactly 8 bytes of content
     if l == 11 {
+        if room < 14 {
+            return 0;
+        }
         buf[0] = SD3;
         return 1;
     }
+    if room < l + 6 {
+        return 0;
+    }
+    put_lengths(buf, l as u8)
+}
+
+// The start of a telegram of any other length.
+fn put_lengths(buf: &mut [u8], l: u8) -> usize
+    requires { ⌜ 4 ≤ length (now buf) ⌝ }
+    ensures { λ r. ⌜ Placed (now (buf .entry)) 0 (SD2 ∷ l ∷ l ∷ SD2 ∷ []) r (now (buf .exit)) ⌝ }
+{
     buf[0] = SD2;
     buf[1] = l;
     buf[2] = l;
@@ -102,12 +110,15 @@ fn put_end(buf: &mut [u8], place: Place) -> usize
     at + 2
 }
 
-// Writes a data telegram with length byte l at the buffer's front, and gives its length.
-pub fn serialize(header: DataTelegramHeader, pdu: &[u8], l: u8, buf: &mut [u8]) -> usize
-    requires { ⌜ Writable header (now pdu) l (length (now buf)) ⌝ }
-    ensures { λ r. ⌜ Placed (now (buf .entry)) 0 (telegramBytes header (now (pdu .entry))) r (now (buf .exit)) ⌝ }
+// Writes a data telegram with length byte l at the buffer's front, and gives its length. Where it has no room nothing is written, and 0 given.
+pub(crate) fn serialize(header: DataTelegramHeader, pdu: &[u8], l: usize, buf: &mut [u8]) -> usize
+    requires { ⌜ Writable header (now pdu) l ⌝ }
+    ensures { λ r. ⌜ Fitted (now (buf .entry)) (length (telegramBytes header (now (pdu .entry)))) (telegramBytes header (now (pdu .entry))) r (now (buf .exit)) ⌝ }
 {
     let at = put_start(buf, l);
+    if at == 0 {
+        return 0;
+    }
     let after_head = put_head(buf, Place { at, sum: 0 }, header);
     let after_pdu = put_pdu(buf, after_head, pdu);
     put_end(buf, after_pdu)

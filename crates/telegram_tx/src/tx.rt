@@ -5,7 +5,6 @@ ghost use lib.ListN.{length};
 ghost use Rattle.telegram_tx.specs.Writing.{shownWriting, replyOf, writeOf, bufferOf, writeTokenOf, tokenBufferOf, writeConfirmationOf, confirmationBufferOf, plainHeader, statusRequest, statusResponse};
 use crate::serialize::length_byte;
 use crate::serialize::serialize;
-use crate::serialize::total_length;
 use codes::Address;
 use codes::FrameCountBit;
 use codes::FunctionCode;
@@ -82,10 +81,10 @@ fn send_addressed(header: DataTelegramHeader, pdu: &[u8], buf: &mut [u8]) -> Tel
     if 249 < l {
         return TelegramTxResult::Refused(Refusal::TooLong);
     }
-    if buf.len() < total_length(l) {
+    let bytes_sent = serialize(header, pdu, l, buf);
+    if bytes_sent == 0 {
         return TelegramTxResult::Refused(Refusal::NoRoom);
     }
-    let bytes_sent = serialize(header, pdu, l as u8, buf);
     let replier = header.da;
     let fc = header.fc;
     let expects_reply = reply_of(replier, fc);

@@ -20,7 +20,7 @@ pub fn put_byte(buf: &mut [u8], at: usize, b: u8) -> usize
 }
 
 // The place itself, or one past the end: where a row of no bytes ends.
-fn clipped(len: usize, at: usize) -> usize
+pub(crate) fn clipped(len: usize, at: usize) -> usize
     requires { ⌜ len + 1 < 2 ^ 64 ⌝ }
     ensures { λ r. ⌜ r ≡ min at (len + 1) ⌝ }
 {

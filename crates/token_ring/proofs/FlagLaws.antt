@@ -16,12 +16,7 @@ use lib.Seq.{ext-getD, getD-set-other, drop-cons, take-suc, take-all, length-tak
 use lib.Dec.{leb, eqb}
 use mir.Val.{boolByte}
 use Rattle.codes.specs.Pick.{if}
-use Rattle.token_ring.specs.Flags.{active, within, sweep, cleared, allClear, quiet, lowest, lowestFrom, highest, highestBelow}
-
--- whether a search found nothing
-abbrev pub isNone : Option ℕ → Bool
-isNone none = true
-isNone (some a) = false
+use Rattle.token_ring.specs.Flags.{active, within, sweep, cleared, quiet, lowestFrom, highest, highestBelow}
 
 -- ---- a pick
 
@@ -179,13 +174,3 @@ highest-clamped to l h =
     by-cases (decLt to 128)
     (λ k. let e : min to 128 ≡ to = omega arith in rw e)
     (λ k. let e : min to 128 ≡ 128 = omega arith in rw (e, take-all to l (omega arith), take-all 128 l (omega arith)))
-
--- nothing up to the end is nothing found
-allClear-lowest : (k : ℕ) (xs : List Bool) → allClear xs ≡ isNone (lowest k xs)
-allClear-lowest k [] = refl
-allClear-lowest k (true ∷ xs) = refl
-allClear-lowest k (false ∷ xs) = allClear-lowest (suc k) xs
-
-pub quiet-lowest : (from to : ℕ) (l : List Bool) → length l ≤ to → quiet from to l ≡ isNone (lowestFrom from l)
-unfolding quiet lowestFrom
-quiet-lowest from to l h = rw (take-all (to - from) (drop from l) (rw length-drop (omega arith))) (allClear-lowest from (drop from l))

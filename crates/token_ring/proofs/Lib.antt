@@ -4,3 +4,4 @@ pub mod Sets
 pub mod Neighbours
 pub mod ByIndex
 pub mod Sound
+pub mod NearestLaws

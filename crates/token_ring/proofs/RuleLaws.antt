@@ -13,13 +13,12 @@ use borrow.Author.Tests.{le-leb, lt-leb, le-ltb, lt-ltb}
 use lib.ListN.{length, length-set}
 use Rattle.codes.specs.Pick.{if}
 use Rattle.codes.specs.declared.address.Address.{Address}
-use Rattle.token_ring.specs.declared.ring.Found.{Found}
 use Rattle.token_ring.specs.declared.ring.Heard.{Heard}
 use Rattle.token_ring.specs.declared.ring.TokenRing.{TokenRing}
-use Rattle.token_ring.specs.Flags.{active, cleared, quiet, lowestFrom, highestBelow, shownFound}
-use Rattle.token_ring.specs.Rules.{wrap, swept, passed, orElse, nextOf, previousOf, holds, Effect, effectOf, effected, inPhase, withFlags, updated, witnessed}
-use Rattle.token_ring.specs.Leaves.{Hears, nextStart}
-use Rattle.token_ring.proofs.FlagLaws.{isNone, length-cleared, quiet-lowest}
+use Rattle.token_ring.specs.Flags.{active, cleared, quiet, lowestFrom, highestBelow}
+use Rattle.token_ring.specs.Rules.{wrap, swept, passed, nextOf, previousOf, holds, Effect, effectOf, effected, inPhase, withFlags, updated, witnessed}
+use Rattle.token_ring.specs.Leaves.{Hears}
+use Rattle.token_ring.proofs.FlagLaws.{length-cleared}
 
 -- ---- update
 
@@ -67,39 +66,21 @@ module _ (sa da : ℕ) (l : List Bool) where
       unfolding holds
       holds-wrap h = rw (e, f, le-leb da sa h, add-one)
 
--- ---- next
-
-next-of-start : (b : Bool) (o : Option ℕ) (o₀ : Option ℕ) (own : ℕ) → b ≡ isNone o → orElse (if b o₀ o) own ≡ orElse o (orElse o₀ own)
-next-of-start true none o₀ own e = refl
-next-of-start false (some a) o₀ own e = refl
-next-of-start false none o₀ own e = let z : _≡_ {A = ℕ} 0 1 = cc in omega arith
-next-of-start true (some a) o₀ own e = let z : _≡_ {A = ℕ} 0 1 = cc in omega arith
-
-lowest-if : (b : Bool) (x y : ℕ) (l : List Bool) → lowestFrom (if b x y) l ≡ if b (lowestFrom x l) (lowestFrom y l)
-lowest-if true x y l = refl
-lowest-if false x y l = refl
-
--- the search that the code makes
-pub next-found : (own : ℕ) (l : List Bool) → length l ≡ 128 → orElse (lowestFrom (nextStart own l) l) own ≡ nextOf own l
-unfolding nextOf
-next-found own l h =
-    rw (lowest-if (quiet (suc own) 128 l) 0 (suc own) l)
-    (next-of-start _ _ _ own (quiet-lowest (suc own) 128 l (omega arith)))
-
--- the answer of that search
-pub next-of-search : (own start : ℕ) (l : List Bool) (f : Found) → start ≡ nextStart own l → length l ≡ 128 → shownFound f ≡ lowestFrom start l
-    → orElse (shownFound f) own ≡ nextOf own l
-next-of-search own start l f e h k = rw (k, e) (next-found own l h)
-
-pub next-start-round : (own : ℕ) (l : List Bool) → quiet (own + 1) 128 l ≡ true → nextStart own l ≡ 0
-next-start-round own l e = rw (rw add-one at e)
-
-pub next-start-above : (own : ℕ) (l : List Bool) → quiet (own + 1) 128 l ≡ false → nextStart own l ≡ own + 1
-next-start-above own l e = rw (rw add-one at e, add-one)
-
--- ---- previous
+-- ---- next and previous
 
 module _ (own : ℕ) (l : List Bool) where
+  pub next-above : (a : ℕ) → lowestFrom (suc own) l ≡ some a → nextOf own l ≡ a
+  unfolding nextOf
+  next-above a e = rw e
+
+  pub next-round : (a : ℕ) → lowestFrom (suc own) l ≡ none → lowestFrom 0 l ≡ some a → nextOf own l ≡ a
+  unfolding nextOf
+  next-round a e f = rw (e, f)
+
+  pub next-none : lowestFrom (suc own) l ≡ none → lowestFrom 0 l ≡ none → nextOf own l ≡ own
+  unfolding nextOf
+  next-none e f = rw (e, f)
+
   pub previous-below : (a : ℕ) → highestBelow own l ≡ some a → previousOf own l ≡ a
   unfolding previousOf
   previous-below a e = rw e

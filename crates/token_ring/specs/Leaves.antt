@@ -1,11 +1,11 @@
 -- What private functions promise each other. No promise of a public call cites this file.
 -- Assumes nothing.
-use mathlib.Core.Bool.{Bool}
+use mathlib.Core.Bool.{Bool, true, false}
 use mathlib.Core.List.{List}
 use mathlib.Core.Path.{_≡_}
-use Prim.Native.Nat.{ℕ, suc, _≤_, min}
+use Prim.Native.Nat.{ℕ, _+_, _-_, _%_, _≤_, _<_, min}
 use Rattle.codes.specs.Pick.{if}
-use Rattle.token_ring.specs.Flags.{quiet}
+use Rattle.token_ring.specs.Flags.{active}
 use Rattle.token_ring.specs.Rules.{Effect, passed}
 use Rattle.token_ring.specs.declared.ring.Heard.{Heard}
 
@@ -20,6 +20,21 @@ pub record AtMost (to r : ℕ) : Type 0 where
   pub place : r ≡ min to 128
   pub bound : r ≤ 128
 
--- where the code starts to search for the next station: above own, or at 0 where nothing is active there
-abbrev pub nextStart : ℕ → List Bool → ℕ
-nextStart own flags = if (quiet (suc own) 128 flags) 0 (suc own)
+-- how far a place lies above another, and below it, round the 128 places
+abbrev pub up : ℕ → ℕ → ℕ
+up from at = (at + 128 - from) % 128
+
+abbrev pub down : ℕ → ℕ → ℕ
+down from at = (from + 128 - at) % 128
+
+-- the least of these distances at an active address below n, or 255 where there is none
+pub data Nearest (away : ℕ → ℕ) (n : ℕ) (flags : List Bool) (r : ℕ) : Type 0 where
+  nobody : ((i : ℕ) → i < n → active flags i ≡ false) → r ≡ 255 → Nearest away n flags r
+  nearest : (j : ℕ) → j < n → active flags j ≡ true → r ≡ away j → ((i : ℕ) → i < n → active flags i ≡ true → away j ≤ away i) → Nearest away n flags r
+
+-- the places next to an own address, round the 128; an own address past them counts as the last
+abbrev pub placeAbove : ℕ → ℕ
+placeAbove own = (min own 127 + 1) % 128
+
+abbrev pub placeBelow : ℕ → ℕ
+placeBelow own = (min own 128 + 127) % 128

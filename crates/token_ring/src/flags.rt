@@ -1,15 +1,17 @@
 // The work on the 128 flags. They are lent, so that no call copies them.
 use crate::ring::Found;
 use codes::Address;
+use std::num::wrapping_sub_u8;
 ghost use mathlib.Core.Path.{_≡_};
-ghost use Prim.Native.Nat.{_≤_, _<_};
+ghost use Prim.Native.Nat.{_≤_, _<_, min};
 ghost use lib.ListN.{length, set};
+ghost use Rattle.codes.specs.Pick.{if};
 ghost use Rattle.token_ring.specs.Flags.{cleared, quiet, lowestFrom, highestBelow, shownFound};
-ghost use Rattle.token_ring.specs.Leaves.{AtMost, nextStart};
+ghost use Rattle.token_ring.specs.Leaves.{AtMost, Nearest, down, placeAbove, placeBelow, up};
 ghost use Rattle.token_ring.specs.Rules.{nextOf, previousOf, swept, passed, holds};
 
 // Clears by a range, which compiles to one memset.
-pub fn clear(flags: &mut [bool; 128], from: usize, to: usize)
+pub(crate) fn clear(flags: &mut [bool; 128], from: usize, to: usize)
     requires { ⌜ (to ≤ 128) × (length (now flags) ≡ 128) ⌝ }
     ensures { λ _. ⌜ now (flags .exit) ≡ cleared from to (now (flags .entry)) ⌝ }
 {
@@ -21,7 +23,7 @@ pub fn clear(flags: &mut [bool; 128], from: usize, to: usize)
 }
 
 // Sets the flag at `at`. There is none above 127.
-pub fn mark(flags: &mut [bool; 128], at: usize, on: bool)
+pub(crate) fn mark(flags: &mut [bool; 128], at: usize, on: bool)
     requires { ⌜ length (now flags) ≡ 128 ⌝ }
     ensures { λ _. ⌜ now (flags .exit) ≡ set (now (flags .entry)) at on ⌝ }
 {
@@ -31,7 +33,7 @@ pub fn mark(flags: &mut [bool; 128], at: usize, on: bool)
 }
 
 // Whether no flag from `from` up to below `to` is set. No test ends the scan early, so that it compiles to vector instructions.
-pub fn none_between(flags: &[bool; 128], from: usize, to: usize) -> bool
+pub(crate) fn none_between(flags: &[bool; 128], from: usize, to: usize) -> bool
     requires { ⌜ (to ≤ 128) × (length (now flags) ≡ 128) ⌝ }
     ensures { λ r. ⌜ r ≡ quiet from to (now (flags .entry)) ⌝ }
 {
@@ -44,7 +46,7 @@ pub fn none_between(flags: &[bool; 128], from: usize, to: usize) -> bool
     count == 0
 }
 
-pub fn lowest_from(flags: &[bool; 128], from: usize) -> Found
+pub(crate) fn lowest_from(flags: &[bool; 128], from: usize) -> Found
     requires { ⌜ length (now flags) ≡ 128 ⌝ }
     ensures { λ r. ⌜ shownFound r ≡ lowestFrom from (now (flags .entry)) ⌝ }
 {
@@ -66,7 +68,7 @@ fn at_most(to: usize) -> usize
 }
 
 // Scans downward, so that the first one found is the highest.
-pub fn highest_below(flags: &[bool; 128], to: usize) -> Found
+pub(crate) fn highest_below(flags: &[bool; 128], to: usize) -> Found
     requires { ⌜ length (now flags) ≡ 128 ⌝ }
     ensures { λ r. ⌜ shownFound r ≡ highestBelow to (now (flags .entry)) ⌝ }
 {
@@ -80,46 +82,106 @@ pub fn highest_below(flags: &[bool; 128], to: usize) -> Found
     Found::Nothing
 }
 
-// Where the search for the next station starts: above our own address, or at 0 where nothing is active there. Asking that first keeps the
-// search itself short.
-fn start_of_next(flags: &[bool; 128], own: u8) -> usize
-    requires { ⌜ length (now flags) ≡ 128 ⌝ }
-    ensures { λ r. ⌜ r ≡ nextStart own (now (flags .entry)) ⌝ }
+// How far a place lies above another, round the end of the flags.
+fn up_from(from: u8, at: usize) -> u8
+    requires { ⌜ (from < 128) × (at < 128) ⌝ }
+    ensures { λ r. ⌜ r ≡ up from at ⌝ }
 {
-    let above = own as usize + 1;
-    if none_between(flags, above, 128) {
-        return 0;
-    }
-    above
+    wrapping_sub_u8(at as u8, from) % 128
 }
 
-pub fn next_of(flags: &[bool; 128], own: u8) -> Address
+// How far a place lies below another, round the start of the flags.
+fn down_from(from: u8, at: usize) -> u8
+    requires { ⌜ (from < 128) × (at < 128) ⌝ }
+    ensures { λ r. ⌜ r ≡ down from at ⌝ }
+{
+    wrapping_sub_u8(from, at as u8) % 128
+}
+
+// A distance that counts only where the flag is set: 255 is farther than any.
+fn counted(on: bool, away: u8) -> u8
+    ensures { λ r. ⌜ r ≡ if on away 255 ⌝ }
+{
+    if on { away } else { 255 }
+}
+
+fn lesser(a: u8, b: u8) -> u8
+    ensures { λ r. ⌜ r ≡ min a b ⌝ }
+{
+    if a < b { a } else { b }
+}
+
+// How far above a place the nearest active station is, round the end. It looks at every flag and no test ends it early, so that it compiles to
+// vector instructions: a search costs the same for few stations and for many.
+fn nearest_above(flags: &[bool; 128], from: u8) -> u8
+    requires { ⌜ (from < 128) × (length (now flags) ≡ 128) ⌝ }
+    ensures { λ r. ⌜ Nearest (up from) 128 (now (flags .entry)) r ⌝ }
+{
+    let mut best: u8 = 255;
+    let mut at = 0;
+    while at < 128 {
+        best = lesser(counted(flags[at], up_from(from, at)), best);
+        at += 1;
+    }
+    best
+}
+
+// The same downward, round the start.
+fn nearest_below(flags: &[bool; 128], from: u8) -> u8
+    requires { ⌜ (from < 128) × (length (now flags) ≡ 128) ⌝ }
+    ensures { λ r. ⌜ Nearest (down from) 128 (now (flags .entry)) r ⌝ }
+{
+    let mut best: u8 = 255;
+    let mut at = 0;
+    while at < 128 {
+        best = lesser(counted(flags[at], down_from(from, at)), best);
+        at += 1;
+    }
+    best
+}
+
+// The first place above our own address, round the end.
+fn place_above(own: u8) -> u8
+    ensures { λ r. ⌜ r ≡ placeAbove own ⌝ }
+{
+    if own < 127 { own + 1 } else { 0 }
+}
+
+// The first place below our own address, round the start.
+fn place_below(own: u8) -> u8
+    ensures { λ r. ⌜ r ≡ placeBelow own ⌝ }
+{
+    if own == 0 {
+        return 127;
+    }
+    if 128 < own {
+        return 127;
+    }
+    own - 1
+}
+
+pub(crate) fn next_of(flags: &[bool; 128], own: u8) -> Address
     requires { ⌜ length (now flags) ≡ 128 ⌝ }
     ensures { λ r. ⌜ r .0 ≡ nextOf own (now (flags .entry)) ⌝ }
 {
-    let start = start_of_next(flags, own);
-    let found = lowest_from(flags, start);
-    match found {
-        Found::Station(next) => next,
-        Found::Nothing => Address(own),
+    let from = place_above(own);
+    let away = nearest_above(flags, from);
+    if away == 255 {
+        return Address(own);
     }
+    Address((from + away) % 128)
 }
 
-pub fn previous_of(flags: &[bool; 128], own: u8) -> Address
+pub(crate) fn previous_of(flags: &[bool; 128], own: u8) -> Address
     requires { ⌜ length (now flags) ≡ 128 ⌝ }
     ensures { λ r. ⌜ r .0 ≡ previousOf own (now (flags .entry)) ⌝ }
 {
-    let below = highest_below(flags, own as usize);
-    match below {
-        Found::Station(previous) => previous,
-        Found::Nothing => {
-            let all = highest_below(flags, 128);
-            match all {
-                Found::Station(last) => last,
-                Found::Nothing => Address(own),
-            }
-        }
+    let from = place_below(own);
+    let away = nearest_below(flags, from);
+    if away == 255 {
+        return Address(own);
     }
+    Address(down_from(from, away as usize))
 }
 
 // Clears the gap of a pass, as it holds no known active station.
@@ -136,7 +198,7 @@ fn clear_gap(flags: &mut [bool; 128], sa: usize, da: usize)
 }
 
 // Only the source of a pass is known to be alive. The destination is entered when it forwards the token itself.
-pub fn pass(flags: &mut [bool; 128], sa: usize, da: usize)
+pub(crate) fn pass(flags: &mut [bool; 128], sa: usize, da: usize)
     requires { ⌜ (da ≤ 128) × (length (now flags) ≡ 128) ⌝ }
     ensures { λ _. ⌜ now (flags .exit) ≡ passed sa da (now (flags .entry)) ⌝ }
 {
@@ -145,7 +207,7 @@ pub fn pass(flags: &mut [bool; 128], sa: usize, da: usize)
 }
 
 // Whether a pass agrees with the flags.
-pub fn verify(flags: &[bool; 128], sa: usize, da: usize) -> bool
+pub(crate) fn verify(flags: &[bool; 128], sa: usize, da: usize) -> bool
     requires { ⌜ (sa < 128) × (da < 128) × (length (now flags) ≡ 128) ⌝ }
     ensures { λ r. ⌜ r ≡ holds sa da (now (flags .entry)) ⌝ }
 {

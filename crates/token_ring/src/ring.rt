@@ -143,6 +143,32 @@ impl TokenRing {
         }
     }
 
+    // The list of these parts, each as it is. With `active_stations` and the questions below it takes a list through a form that another
+    // language can hold; every call answers every list.
+    pub fn from_parts(
+        active_stations: [bool; 128],
+        las_state: LasState,
+        this_station: Address,
+        next_station: Address,
+        previous_station: Address,
+    ) -> TokenRing
+        ensures { λ r. ⌜ r ≡ record { «active_stations» = «active_stations»; «las_state» = «las_state»; «this_station» = «this_station»; «next_station» = «next_station»; «previous_station» = «previous_station» } ⌝ }
+    {
+        TokenRing {
+            active_stations,
+            las_state,
+            this_station,
+            next_station,
+            previous_station,
+        }
+    }
+
+    pub fn active_stations(self) -> [bool; 128]
+        ensures { λ r. ⌜ r ≡ self .«active_stations» ⌝ }
+    {
+        self.active_stations
+    }
+
     pub fn ready_for_ring(self) -> bool
         ensures { λ r. ⌜ r ≡ isValid (self .«las_state») ⌝ }
     {

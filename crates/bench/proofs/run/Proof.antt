@@ -1,17 +1,14 @@
--- `run` is safe and ends: each line ends behind its start. The buffer keeps its length.
--- Assumes nothing.
-use mathlib.Core.Path.{_≡_}
+-- `run` is safe and ends: each line ends behind its start, and within the input. Assumes nothing.
 use Prim.Native.Nat.{_-_}
 use borrow.Author.Needs.{needs}
-use lib.ListN.{length}
 use Rattle.bench.proofs.run.Statement.{statement}
 use Rattle.bench.proofs.run.Tie as tie
 
 abbrev Inv-loop : tie.InvT-loop
-Inv-loop input out₀ ends₀ at₀ to₀ out ends at to = length out ≡ length out₀
+Inv-loop input len out₀ bench₀ at₀ out bench at = Unit {0}
 
 abbrev μ-loop : tie.MeasureT-loop
-μ-loop input out₀ ends₀ at₀ to₀ out ends at to = length input - at
+μ-loop input len out₀ bench₀ at₀ out bench at = len - at
 
 pub run-spec : {M : Type 1} → statement M
 run-spec =
@@ -23,15 +20,9 @@ run-spec =
     (λ c. search needs)
     (λ c κs. search needs)
     (λ c. search needs)
-    (λ c. search needs)
-    (λ c. search needs)
-    (λ c κs. search needs)
     (λ c κs. search needs)
     (λ c. search needs)
     (λ c. search needs)
     (λ c. search needs)
-    (λ c. search needs)
-    (λ c. search needs)
     (λ c κs. search needs)
-    (λ c. search needs)
     (λ c. search needs))

@@ -1,50 +1,74 @@
--- `serialize` meets its contract: start, head, PDU and end, one behind the other, are the telegram.
+-- `serialize` meets its contract: start, head, PDU and end, one behind the other, are the telegram; and where its start is not put, nothing is.
 -- Assumes nothing.
+use mathlib.Core.Path.{_≡_, refl}
+use Prim.Native.Nat.{_+_, _≤_, _<_}
 use native.Mathlib.Omega.{arith}
+use lib.ListN.{length}
 use borrow.Author.Needs.{needs}
-use Rattle.telegram_tx.proofs.LengthLaws.{head-length, length-byte-split, telegram-length}
-use Rattle.telegram_tx.proofs.PlacingLaws.{telegram-placed}
+use Rattle.telegram.specs.Picture.{lengthByte, startBytes, telegramBytes}
+use Rattle.telegram_tx.proofs.LengthLaws.{head-length, length-byte-split, start-some, telegram-length}
+use Rattle.telegram_tx.proofs.PlacingLaws.{telegram-placed, told-cramped, told-fitting}
+use Rattle.telegram_tx.specs.Placing.{Placed, cramped, fitting}
 use Rattle.telegram_tx.proofs.serialize.serialize.Statement.{statement}
 use Rattle.telegram_tx.proofs.serialize.serialize.Tie as tie
 
-put-start-requires : tie.Need-put-start-requires
-put-start-requires c κs =
-    let s = c .before .before .before in
-    let h = s .args .header in
-    let pdu = s .args .pdu .now in
-    omega (arith, s .pre .enough, telegram-length h pdu, length-byte-split h pdu, head-length h)
+no-room : tie.Need-returns
+no-room c =
+    let p = c .before .before .before in
+    let s = p .before .before .before .before in
+    let told = told-cramped (p .put-start .ensures) (start-some _) (c .if1 .taken) in
+    cramped (rw (telegram-length, ← s .pre .length-is) (told .0)) refl (told .1)
+
+-- what is known behind the test: the room, and the start in its place
+room : (c : tie.Else1) → length (telegramBytes (c .before .before .before .before .before .before .before .args .header) (c .before .before .before .before .before .before .before .args .pdu .now)) ≤ length (c .before .before .before .before .before .before .before .args .buf .now)
+room c =
+    let p = c .before .before .before in
+    rw (telegram-length, ← p .before .before .before .before .pre .length-is) (told-fitting (p .put-start .ensures) (c .if1 .left) .0)
 
 put-head-requires : tie.Need-put-head-requires
 put-head-requires c κs =
-    let s = c .before .before .before .before .before .before .before in
+    let e = c .before in
+    let p = e .before .before .before in
+    let s = p .before .before .before .before in
     let h = s .args .header in
     let pdu = s .args .pdu .now in
-    let start = rw (s .pre .length-is) at (c .before .before .before .put-start .ensures) in (
+    let start = rw (s .pre .length-is) at (told-fitting (p .put-start .ensures) (e .if1 .left) .1) in (
       s .pre .destination,
       s .pre .source,
-      omega (arith, start .next-place, s .pre .enough, telegram-length h pdu, length-byte-split h pdu),
+      omega (arith, start .next-place, room e, telegram-length h pdu, length-byte-split h pdu),
     )
 
 put-pdu-requires : tie.Need-put-pdu-requires
 put-pdu-requires c κs =
-    let s = c .before .before .before .before .before .before .before .before .before .before .before in
+    let e = c .before .before .before .before .before in
+    let p = e .before .before .before in
+    let s = p .before .before .before .before in
     let h = s .args .header in
     let pdu = s .args .pdu .now in
-    let start = rw (s .pre .length-is) at (c .before .before .before .before .before .before .before .put-start .ensures) in
-    omega (arith, start .next-place, s .pre .enough, telegram-length h pdu, length-byte-split h pdu)
+    let start = rw (s .pre .length-is) at (told-fitting (p .put-start .ensures) (e .if1 .left) .1) in
+    omega (arith, start .next-place, room e, telegram-length h pdu, length-byte-split h pdu)
 
 put-end-requires : tie.Need-put-end-requires
 put-end-requires c κs =
-    let s = c .before .before .before .before .before .before .before .before .before .before .before .before .before .before .before in
+    let d = c .before .before .before in
+    let b = d .before .before .before .before in
+    let e = b .before .before in
+    let p = e .before .before .before in
+    let s = p .before .before .before .before in
     let h = s .args .header in
     let pdu = s .args .pdu .now in
-    let start = rw (s .pre .length-is) at (c .before .before .before .before .before .before .before .before .before .before .before .put-start .ensures) in
-    omega (arith, start .next-place, c .before .before .before .before .before .before .before .before .before .before .before .put-start .kept, s .pre .enough, telegram-length h pdu, length-byte-split h pdu)
+    let start = rw (s .pre .length-is) at (told-fitting (p .put-start .ensures) (e .if1 .left) .1) in
+    omega (arith, start .next-place, p .put-start .kept, b .put-head .ensures .placed .next-place, b .put-head .kept, d .put-pdu .ensures .placed .next-place, d .put-pdu .kept, room e, telegram-length h pdu, length-byte-split h pdu)
 
-returns : tie.Need-returns
+returns : tie.Need-returns-2
 returns c =
-    let s = c .before .before .before .before .before .before .before .before .before .before .before .before .before .before .before .before .before .before in
-    telegram-placed
+    let d = c .before .before .before .before .before .before in
+    let b = d .before .before .before .before in
+    let e = b .before .before in
+    let p = e .before .before .before in
+    let s = p .before .before .before .before in
+    fitting (room e)
+    (telegram-placed
     _
     (s .args .header)
     (s .args .pdu .now)
@@ -56,14 +80,22 @@ returns c =
     _
     _
     _
-    (s .pre .enough)
-    (c .before .before .before .before .before .before .before .before .before .before .before .before .before .before .put-start .kept .0)
-    (rw (s .pre .length-is) at (c .before .before .before .before .before .before .before .before .before .before .before .before .before .before .put-start .ensures))
-    (c .before .before .before .before .before .before .before .before .before .before .put-head .ensures)
-    (c .before .before .before .before .before .before .put-pdu .ensures)
-    (c .before .before .put-end .ensures)
+    (room e)
+    (p .put-start .kept .0)
+    (rw (s .pre .length-is) at (told-fitting (p .put-start .ensures) (e .if1 .left) .1))
+    (b .put-head .ensures)
+    (d .put-pdu .ensures)
+    (c .before .before .put-end .ensures))
 
 pub serialize-spec : {M : Type 1} → statement M
 serialize-spec =
     tie.close
-    (tie.spec put-start-requires put-head-requires put-pdu-requires put-end-requires (λ c. search needs) returns)
+    (tie.spec
+    (λ c κs. c .before .before .before .pre .short)
+    (λ c. search needs)
+    no-room
+    put-head-requires
+    put-pdu-requires
+    put-end-requires
+    (λ c. search needs)
+    returns)

@@ -1,40 +1,31 @@
--- `previous_of` meets its contract: its searches are the definition's, in the same order.
+-- `previous_of` meets its contract: the nearest station below our own place is the previous one.
 -- Assumes nothing.
-use mathlib.Core.Path.{sym, ap, _∙_}
+use native.Mathlib.Omega.{arith}
 use borrow.Author.Needs.{needs}
-use Rattle.token_ring.specs.Flags.{shownFound}
-use Rattle.token_ring.proofs.RuleLaws.{previous-below, previous-round, previous-none}
+use borrow.Author.Tests.{eq-eqb, ne-eqb}
+use Rattle.token_ring.proofs.NearestLaws.{down-small, near-small, previous-nearest}
 use Rattle.token_ring.proofs.flags.previous_of.Statement.{statement}
 use Rattle.token_ring.proofs.flags.previous_of.Tie as tie
 
 returns : tie.Need-returns
 returns c =
-    sym (previous-below _ _ _ (sym (c .before .before .before .highest-below .ensures) ∙ ap shownFound (c .before .below .given .1)))
+    let n = c .before in
+    let p = n .before in
+    let x = rw (p .place-below .ensures) at (n .nearest-below .ensures) in
+    rw (eq-eqb _ _ (c .if1 .taken)) at (previous-nearest _ _ _ (p .before .pre) x)
+
+down-from-requires : tie.Need-down-from-requires
+down-from-requires c κs =
+    let n = c .before in
+    (omega (arith, n .before .place-below .ensures), near-small _ (down-small _) _ _ (n .nearest-below .ensures) (c .if1 .left))
 
 returns-2 : tie.Need-returns-2
 returns-2 c =
-    let p = c .before .before .before in
-    sym (previous-round _ _ _
-    (sym (p .before .before .before .highest-below .ensures) ∙ ap shownFound (p .before .enum-told .given .1))
-    (sym (p .highest-below2 .ensures) ∙ ap shownFound (c .before .all .given .1)))
-
-returns-3 : tie.Need-returns-3
-returns-3 c =
-    let p = c .before .before in
-    sym (previous-none _ _
-    (sym (p .before .before .before .highest-below .ensures) ∙ ap shownFound (p .before .enum-told .given .1))
-    (sym (p .highest-below2 .ensures) ∙ ap shownFound (c .enum-told2 .given .1)))
+    let n = c .before .before in
+    let p = n .before in
+    let x = rw (p .place-below .ensures) at (n .nearest-below .ensures) in
+    rw (c .down-from .ensures, p .place-below .ensures) (rw (ne-eqb _ _ (c .before .if1 .left)) at (previous-nearest _ _ _ (p .before .pre) x))
 
 pub previous-of-spec : {M : Type 1} → statement M
 previous-of-spec =
-    tie.close
-    (tie.spec
-    (λ c κs. search needs)
-    (λ c. search needs)
-    (λ c. search needs)
-    (λ c κs. search needs)
-    (λ c. search needs)
-    (λ c. search needs)
-    returns
-    returns-2
-    returns-3)
+    tie.close (tie.spec (λ c κs. search needs) (λ c κs. search needs) returns (λ c. search needs) down-from-requires returns-2)

@@ -2,6 +2,7 @@
 -- Assumes nothing.
 use borrow.Author.Needs.{needs}
 use borrow.Author.Tests.{eq-eqb, le-ltb, lt-ltb, ne-eqb}
+use Rattle.buffers.proofs.FrontLaws.{copied-fits}
 use Rattle.diagnostics.specs.Store.{fillOf}
 use Rattle.diagnostics.proofs.store.ExtendedDiagnostics.fill.Statement.{statement}
 use Rattle.diagnostics.proofs.store.ExtendedDiagnostics.fill.Tie as tie
@@ -18,7 +19,8 @@ returns-3 : tie.Need-returns-3
 unfolding fillOf
 returns-3 c =
     let l = c .before .before .before .before in
-    rw (ne-eqb _ _ (l .before .if1 .left), le-ltb _ _ (l .if2 .left), c .before .before .copy-from-slice .ensures)
+    let fits = l .if2 .left in
+    rw (ne-eqb _ _ (l .before .if1 .left), le-ltb _ _ fits, c .before .before .copy-to-front .ensures, copied-fits _ _ fits)
 
 pub fill-spec : {M : Type 1} → statement M
 fill-spec = tie.close (tie.spec returns returns-2 (λ c κs. search needs) (λ c. search needs) returns-3)

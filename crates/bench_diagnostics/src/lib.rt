@@ -1,3 +1,0 @@
-// The bench's commands on diagnostics.
-mod blocks;
-pub mod commands;

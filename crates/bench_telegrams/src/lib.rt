@@ -1,3 +1,0 @@
-// The bench's commands on telegrams.
-pub mod reading;
-pub mod writing;

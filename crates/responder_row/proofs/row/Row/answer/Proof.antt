@@ -1,0 +1,37 @@
+-- `Row::answer` meets its contract: each arm is a clause of `answersIn`.
+-- Assumes nothing.
+use borrow.Author.Needs.{needs}
+use mathlib.Core.Path.{refl}
+use borrow.Author.Tests.{lt-ltb, le-ltb}
+use Rattle.responder_row.proofs.RowLaws.{answer-refused, answer-accepted}
+use Rattle.responder_row.proofs.row.Row.answer.Statement.{statement}
+use Rattle.responder_row.proofs.row.Row.answer.Tie as tie
+
+too-long : tie.Need-returns
+too-long c =
+    answer-refused _ _ _ (c .before .before .before .state .given .1) _ _ (c .refuse3 .ensures)
+    (rw (lt-ltb _ _ (c .before .if1 .taken)))
+
+accepted : tie.Need-returns-4
+accepted c =
+    answer-accepted _ _ _ (c .before .before .before .state .given .1) _
+    (rw (le-ltb _ _ (c .before .if1 .left), c .hold .ensures))
+
+pub answer-spec : {M : Type 1} → statement M
+answer-spec =
+    tie.close
+    (tie.spec
+    (λ c. search needs)
+    (λ c κs. search needs)
+    (λ c. search needs)
+    (λ c κs. search needs)
+    (λ c. search needs)
+    (λ c κs. search needs)
+    too-long
+    (λ c κs. search needs)
+    (λ c. search needs)
+    (λ c κs. search needs)
+    (λ c. answer-refused _ _ _ (c .before .enum-told .given .1) _ _ (c .refuse .ensures) refl)
+    (λ c. answer-refused _ _ _ (c .before .enum-told2 .given .1) _ _ (c .refuse2 .ensures) refl)
+    accepted
+    (λ c. answer-refused _ _ _ (c .before .enum-told3 .given .1) _ _ (c .refuse4 .ensures) refl))

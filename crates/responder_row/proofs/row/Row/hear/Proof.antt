@@ -1,0 +1,32 @@
+-- `Row::hear` meets its contract: each arm is a clause of `rowHears`.
+-- Assumes nothing.
+use borrow.Author.Needs.{needs}
+use Rattle.responder_row.specs.Rows.{rowHears}
+use Rattle.responder_row.proofs.row.Row.hear.Statement.{statement}
+use Rattle.responder_row.proofs.row.Row.hear.Tie as tie
+
+opening : tie.Need-returns
+unfolding rowHears
+opening c = rw (c .before .enum-told .given .1, c .in-state .ensures)
+
+order : tie.Need-returns-2
+unfolding rowHears
+order c = rw (c .before .before .heard .given .1) (c .hear-order .ensures)
+
+all-else : tie.Need-returns-3
+unfolding rowHears
+all-else c = rw (c .before .enum-told2 .given .1) (c .ignore .ensures)
+
+pub hear-spec : {M : Type 1} → statement M
+hear-spec =
+    tie.close
+    (tie.spec
+    (λ c. search needs)
+    (λ c κs. search needs)
+    (λ c. search needs)
+    (λ c κs. search needs)
+    (λ c. search needs)
+    (λ c κs. search needs)
+    opening
+    order
+    all-else)

@@ -1,0 +1,37 @@
+-- `hear_order` meets its contract: the stored bit is asked for first, then whether the order's is the same.
+-- Assumes nothing.
+use borrow.Author.Needs.{needs}
+use Rattle.responder_row.proofs.row.Row.hear_order.Statement.{statement}
+use Rattle.responder_row.proofs.row.Row.hear_order.Tie as tie
+
+no-bit : tie.Need-returns
+no-bit c = rw (← c .before .before .before .stored-bit .ensures, c .before .enum-told .given .1) (c .ignore .ensures)
+
+again : tie.Need-returns-2
+again c =
+    let b = c .before .before in
+    let s = b .before .before in
+    rw (← s .before .before .stored-bit .ensures, s .stored .given .1, ← b .same-bit .ensures, c .before .if1 .taken)
+    (c .hear-again .ensures)
+
+other : tie.Need-returns-3
+other c =
+    let b = c .before .before in
+    let s = b .before .before in
+    rw (← s .before .before .stored-bit .ensures, s .stored .given .1, ← b .same-bit .ensures, c .before .if1 .left)
+    (c .hear-other .ensures)
+
+pub hear-order-spec : {M : Type 1} → statement M
+hear-order-spec =
+    tie.close
+    (tie.spec
+    (λ c κs. search needs)
+    (λ c. search needs)
+    (λ c. search needs)
+    (λ c κs. search needs)
+    no-bit
+    (λ c κs. search needs)
+    (λ c κs. search needs)
+    (λ c κs. search needs)
+    again
+    other)

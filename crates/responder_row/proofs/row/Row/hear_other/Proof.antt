@@ -1,0 +1,16 @@
+-- `hear_other` meets its contract: its test is that of `otherOn`.
+-- Assumes nothing.
+use borrow.Author.Needs.{needs}
+use Rattle.responder_row.proofs.row.Row.hear_other.Statement.{statement}
+use Rattle.responder_row.proofs.row.Row.hear_other.Tie as tie
+
+wrong : tie.Need-returns
+wrong c = rw (← c .before .before .wrong-length .ensures, c .before .if1 .taken) (c .ignore .ensures)
+
+handed-up : tie.Need-returns-2
+handed-up c = rw (← c .before .before .wrong-length .ensures, c .before .if1 .left, c .in-state .ensures)
+
+pub hear-other-spec : {M : Type 1} → statement M
+hear-other-spec =
+    tie.close
+    (tie.spec (λ c κs. search needs) (λ c κs. search needs) wrong (λ c κs. search needs) handed-up)

@@ -1,0 +1,131 @@
+-- Document 01, "Responder": what it remembers of one initiator, and what a heard telegram, an answer and a restart do to that.
+-- Assumes nothing.
+use Prim.Native.Nat.{ℕ}
+use mathlib.Core.Bool.{Bool, true, false}
+use mathlib.Core.List.{List, _++_}
+use lib.Dec.{eqb, ltb}
+use lib.ListN.{length, take, drop, replicate}
+use Rattle.codes.specs.Pick.{if}
+use Rattle.codes.specs.Refusals.{Outcome, gives, refused, numberOf}
+use Rattle.codes.specs.declared.part.Part.{Part}
+use Rattle.codes.specs.declared.refusal.Answer.{Answer}
+use Rattle.codes.specs.declared.refusal.Answer.the-variants as answer
+use Rattle.link_telegrams.specs.declared.headers.Bit.{Bit}
+use Rattle.link_telegrams.specs.declared.headers.Bit.the-variants.{Low, High}
+use Rattle.link_telegrams.specs.declared.heard.RequestHeard.{RequestHeard}
+use Rattle.link_telegrams.specs.declared.heard.RequestHeard.the-variants as heard
+use Rattle.responder_row.specs.declared.row.Row.{Row}
+use Rattle.responder_row.specs.declared.row.RowAction.{RowAction}
+use Rattle.responder_row.specs.declared.row.RowAction.the-variants as action
+use Rattle.responder_row.specs.declared.row.RowAnswered.{RowAnswered}
+use Rattle.responder_row.specs.declared.row.RowState.{RowState}
+use Rattle.responder_row.specs.declared.row.RowState.the-variants.{Blank, Opened, Owes, Holds}
+use Rattle.responder_row.specs.declared.row.RowTurn.{RowTurn}
+use Rattle.responder_row.specs.declared.row.StoredBit.{StoredBit}
+use Rattle.responder_row.specs.declared.row.StoredBit.the-variants as stored
+
+-- "Restart forgets all": a row that remembers nothing
+abbrev pub blankRow : Row
+blankRow = record { state = Blank; held = replicate 246 0; len = 0 }
+
+abbrev pub stateOf : Row → RowState
+stateOf row = row .state
+
+-- the held reply
+abbrev pub heldOf : Row → List ℕ
+heldOf row = take (row .len) (row .held)
+
+-- the stored bit: an opening stores "bit 1", an order its own
+abbrev pub storedBit : RowState → StoredBit
+storedBit Blank = stored.Nothing
+storedBit Opened = stored.Is High
+storedBit (Owes b) = stored.Is b
+storedBit (Holds b) = stored.Is b
+
+-- is a reply owed
+abbrev pub owesReply : RowState → Bool
+owesReply Blank = false
+owesReply Opened = false
+owesReply (Owes b) = true
+owesReply (Holds b) = false
+
+-- is a reply held
+abbrev pub holdsReply : RowState → Bool
+holdsReply Blank = false
+holdsReply Opened = false
+holdsReply (Owes b) = false
+holdsReply (Holds b) = true
+
+-- "Same bit"
+abbrev pub sameBit : Bit → Bit → Bool
+sameBit Low Low = true
+sameBit Low High = false
+sameBit High Low = false
+sameBit High High = true
+
+-- "empty or above 246 bytes"
+abbrev pub wrongLength : ℕ → Bool
+wrongLength n = if (eqb n 0) true (ltb 246 n)
+
+-- the row in another state, with so many bytes of what it held
+abbrev pub inState : Row → RowState → ℕ → Row
+inState row state n = record { state = state; held = row .held; len = n }
+
+-- "drop an owed or held reply"
+abbrev pub dropping : Row → RowState → Row
+dropping row state = inState row state 0
+
+-- the row with a reply that is held from now on, under the bit of its order
+abbrev pub holding : Bit → List ℕ → Row → Row
+holding b p row = record { state = Holds b; held = p ++ drop (length p) (row .held); len = length p }
+
+-- "nothing"
+abbrev pub ignoring : Row → RowTurn
+ignoring row = record { action = action.Nothing; row = row }
+
+-- "Same bit: the held reply again, nothing where none is held"
+abbrev pub againOn : RowState → Row → RowTurn
+againOn Blank row = ignoring row
+againOn Opened row = ignoring row
+againOn (Owes b) row = ignoring row
+againOn (Holds b) row = record { action = action.WriteHeld; row = row }
+
+-- "Other bit: empty or above 246 bytes, nothing; else store the bit, drop the held reply and hand the order up as part of the
+-- heard bytes"
+abbrev pub otherOn : Bit → Part → Row → RowTurn
+otherOn b q row =
+    if (wrongLength (q .len)) (ignoring row) (record { action = action.HandUp q; row = dropping row (Owes b) })
+
+-- "FCV with no stored bit: nothing. Same bit: … Other bit: …"
+abbrev pub orderOn : StoredBit → Bit → Part → Row → RowTurn
+orderOn stored.Nothing b q row = ignoring row
+orderOn (stored.Is c) b q row = if (sameBit c b) (againOn (row .state) row) (otherOn b q row)
+
+-- "First and empty: store bit 1, drop an owed or held reply, answer. … All else: nothing"
+unfoldable pub rowHears : RequestHeard → Row → RowTurn
+rowHears heard.Opening row = record { action = action.WriteOk; row = dropping row Opened }
+rowHears (heard.Order b q) row = orderOn (storedBit (row .state)) b q row
+rowHears heard.Nothing row = ignoring row
+
+-- "the application then answers once, and that answer is held"; 21: "answer when none is owed", 9: "a link reply above 246 bytes"
+abbrev pub answersIn : RowState → Row → List ℕ → Outcome Row
+answersIn Blank row p = refused 21
+answersIn Opened row p = refused 21
+answersIn (Owes b) row p = if (ltb 246 (length p)) (refused 9) (gives (holding b p row))
+answersIn (Holds b) row p = refused 21
+
+unfoldable pub rowAnswers : Row → List ℕ → Outcome Row
+rowAnswers row p = answersIn (row .state) row p
+
+-- the row that comes back: in a refused call "records … stay"
+abbrev pub rowAfter : Outcome Row → Row → Row
+rowAfter (gives next) row = next
+rowAfter (refused n) row = row
+
+-- what an answer to a row gives, with document 01's number
+abbrev pub shownIn : Answer → Row → Outcome Row
+shownIn answer.Done row = gives row
+shownIn (answer.Refused refusal) row = refused (numberOf refusal)
+
+abbrev pub shownAnswered : RowAnswered → Outcome Row
+shownAnswered a = shownIn (a .answer) (a .row)

@@ -1,0 +1,23 @@
+-- `put_lengths` meets its contract: four stores.
+-- Assumes nothing.
+use mathlib.Core.List.{[], _∷_}
+use native.Mathlib.Omega.{arith}
+use lib.ListN.{length-set}
+use borrow.Author.Needs.{needs}
+use Rattle.telegram_tx.proofs.PlacingLaws.{stores-placed}
+use Rattle.telegram_tx.proofs.serialize.put_lengths.Statement.{statement}
+use Rattle.telegram_tx.proofs.serialize.put_lengths.Tie as tie
+
+returns : tie.Need-returns
+returns c = stores-placed _ 0 (_ ∷ _ ∷ _ ∷ _ ∷ []) (omega arith)
+
+pub put-lengths-spec : {M : Type 1} → statement M
+put-lengths-spec =
+    tie.close
+    (tie.spec
+    (λ c. search needs)
+    (λ c. simp length-set (omega arith))
+    (λ c. simp length-set (omega arith))
+    (λ c. simp length-set (omega arith))
+    (λ c. simp length-set)
+    returns)

@@ -1,0 +1,24 @@
+-- `put_hex_byte` meets its contract: the low digit goes behind the high one.
+-- Assumes nothing.
+use borrow.Author.Needs.{needs}
+use Rattle.text.proofs.PlacedLaws.{then, kept}
+use Rattle.text.proofs.hex.put_hex_byte.Statement.{statement}
+use Rattle.text.proofs.hex.put_hex_byte.Tie as tie
+
+returns : tie.Need-returns
+returns c =
+    let low = c .before .before in
+    let high = low .before .before .before .before .before in
+    rw (← high .before .hex-digit .ensures, ← low .before .hex-digit2 .ensures)
+    (then (high .put-byte .ensures) (low .put-byte2 .ensures))
+
+pub put-hex-byte-spec : {M : Type 1} → statement M
+put-hex-byte-spec =
+    tie.close
+    (tie.spec
+    (λ c κs. search needs)
+    (λ c κs. search needs)
+    (λ c κs. search needs)
+    (λ c κs. search needs)
+    (λ c. search needs)
+    returns)

@@ -1,0 +1,18 @@
+-- Bytes as hexadecimal digits.
+-- Assumes nothing.
+use Prim.Native.Nat.{ℕ, _+_, _/_, _%_}
+use mathlib.Core.List.{List, [], _∷_, _++_}
+use lib.Dec.{ltb}
+use Rattle.codes.specs.Pick.{if}
+
+-- '0' to '9', then 'A' to 'F'
+unfoldable pub hexDigit : ℕ → ℕ
+hexDigit d = if (ltb d 10) (48 + d) (55 + d)
+
+abbrev pub hexByte : ℕ → List ℕ
+hexByte b = hexDigit (b / 16) ∷ hexDigit (b % 16) ∷ []
+
+-- two digits for each byte, the high one first
+abbrev pub hexOf : List ℕ → List ℕ
+hexOf [] = []
+hexOf (b ∷ bs) = hexByte b ++ hexOf bs

@@ -1,0 +1,100 @@
+/* A whole order through both ends of the link: an opening and its reply, the order, its reply. Then a lost reply, which the
+ * responder's held reply makes good. Prints each telegram; `run` compares it with example.out. */
+#include <stdio.h>
+#include <stdlib.h>
+#include <string.h>
+
+#include "koyandefa.h"
+
+static uint8_t initiator[KOY_INITIATOR_SIZE];
+static uint8_t responder[KOY_RESPONDER_SIZE];
+
+/* what stands on the line; an end writes into `out` while it hears `line` */
+static uint8_t line[255], out[255];
+static size_t line_len;
+static size_t told[3];
+
+static void want(const char *what, uint8_t code, uint8_t expected)
+{
+    if (code != expected) {
+        printf("%s: code %u, expected %u\n", what, code, expected);
+        exit(1);
+    }
+}
+
+/* what an end wrote is on the line now */
+static void on_the_line(const char *who)
+{
+    line_len = told[0];
+    memcpy(line, out, line_len);
+    printf("%s:", who);
+    for (size_t i = 0; i < line_len; i++)
+        printf(" %02X", line[i]);
+    printf("\n");
+}
+
+static void initiator_sends(uint8_t code)
+{
+    want("initiator", code, KOY_SENT);
+    on_the_line("head end");
+}
+
+static void responder_sends(uint8_t code)
+{
+    want("responder", code, KOY_SENT);
+    on_the_line(" cabinet");
+}
+
+static uint8_t responder_hears(void)
+{
+    return koy_responder_hear(responder, line, line_len, out, sizeof out, told);
+}
+
+static uint8_t initiator_hears(void)
+{
+    return koy_initiator_hear(initiator, line, line_len, out, sizeof out, told);
+}
+
+/* the cabinet hears an order and answers it with one byte more than it got */
+static void carry_out(void)
+{
+    uint8_t reply[246];
+    want("responder", responder_hears(), KOY_HANDED_UP);
+    size_t len = told[1];
+    memcpy(reply, line + told[0], len);
+    reply[len] = 0x06;
+    printf(" cabinet carries out %zu bytes\n", len);
+    responder_sends(koy_responder_answer(responder, reply, len + 1, out, sizeof out, told));
+}
+
+static void confirmed(void)
+{
+    want("initiator", initiator_hears(), KOY_CONFIRMED);
+    printf("head end: confirmed after %zu tries, reply of %zu bytes\n", told[2], told[1]);
+}
+
+int main(void)
+{
+    const uint8_t open_feeder[] = {0x01, 0x03};
+    const uint8_t close_feeder[] = {0x02, 0x03, 0x05};
+    const char text[] = "own=2\npeer=5\ntries=2\n";
+
+    want("settings", koy_settings_read((const uint8_t *)text, sizeof text - 1, told), KOY_DONE);
+    want("new", koy_initiator_new(initiator, (uint8_t)told[0], (uint8_t)told[1], (uint8_t)told[2]), KOY_DONE);
+    want("new", koy_responder_new(responder, (uint8_t)told[1], (uint8_t)told[0]), KOY_DONE);
+
+    initiator_sends(koy_initiator_submit(initiator, open_feeder, sizeof open_feeder, out, sizeof out, told));
+    want("submit again", koy_initiator_submit(initiator, open_feeder, 2, out, sizeof out, told), KOY_ORDER_PENDING);
+    responder_sends(responder_hears());
+    initiator_sends(initiator_hears());
+    carry_out();
+    confirmed();
+
+    initiator_sends(koy_initiator_submit(initiator, close_feeder, sizeof close_feeder, out, sizeof out, told));
+    carry_out();
+    printf("the reply is lost\n");
+    initiator_sends(koy_initiator_silence(initiator, out, sizeof out, told));
+    responder_sends(responder_hears());
+    confirmed();
+    return 0;
+}

@@ -1,0 +1,182 @@
+/* Koyandefa: telegrams, the station list, diagnostics and the order link of PROFIBUS, as proved functions.
+ *
+ * Link with libexports.a (rt staticlib exports), and where a call of the order link is used, koy_initiator_... or
+ * koy_responder_..., with libexports_link.a too (rt staticlib exports_link); neither needs the other. They allocate nothing, keep
+ * no state of their own, call nothing but memcpy and memset, and return from every call. Each call is proved to answer every number, every length and every content of
+ * the bytes that it is lent as document 01 says.
+ *
+ * What the caller owes, as with memcpy: a pointer and a length name bytes that are there; a pointer may be any that is not
+ * null where the length is 0; an array has as many elements as its type says; what a call is lent to write to overlaps
+ * nothing else that it is lent.
+ *
+ * Codes. A call that may refuse returns 0 for done or the number of document 01's refusal (1 to 22), and some calls one of
+ * the codes from 100 on. A REFUSED CALL LEAVES ALL THAT IT WAS LENT AS IT CAME; only a refused walk moves its cursor.
+ *
+ * State is lent as bytes of a stated size and belongs to the caller: copy it, store it, send it. The layout is given
+ * below and every content is answered.
+ */
+#ifndef KOYANDEFA_H
+#define KOYANDEFA_H
+
+#include <stdbool.h>
+#include <stddef.h>
+#include <stdint.h>
+
+#ifdef __cplusplus
+extern "C" {
+#endif
+
+/* ---- codes ---- */
+
+#define KOY_DONE 0
+/* refusals of document 01 */
+#define KOY_UNKNOWN_START 1
+#define KOY_LENGTHS_DIFFER 2
+#define KOY_LENGTH_TOO_SMALL 3
+#define KOY_FUNCTION_CODE 4
+#define KOY_SAP_MISSING 5
+#define KOY_CHECKSUM 6
+#define KOY_END_DELIMITER 7
+#define KOY_ADDRESS_TOO_LARGE 8
+#define KOY_TOO_LONG 9
+#define KOY_NO_ROOM 10
+#define KOY_NOT_A_STATION 11
+#define KOY_BLOCK_CUT_OFF 12
+#define KOY_BLOCK_RESERVED 13
+#define KOY_BLOCK_LENGTH_ZERO 14
+#define KOY_ORDER_LENGTH 16
+#define KOY_ORDER_PENDING 17
+#define KOY_LINK_ADDRESSES 18
+#define KOY_TRIES 19
+#define KOY_SETTINGS_FORM 20
+#define KOY_NO_REPLY_OWED 21
+/* answers that are no refusals */
+#define KOY_INCOMPLETE 100 /* reading: too few bytes to tell */
+#define KOY_AT_END 101     /* the walk: no more blocks */
+#define KOY_SENT 102       /* a telegram stands at the front of the buffer */
+#define KOY_CONFIRMED 103  /* the pending order was carried out exactly once */
+#define KOY_NOT_SENT 104   /* the pending order was never carried out */
+#define KOY_UNKNOWN 105    /* the pending order was carried out at most once */
+#define KOY_HANDED_UP 106  /* carry this order out, then answer */
+
+/* stands where a byte is absent: an address, a SAP, a function code */
+#define KOY_ABSENT 256
+
+/* ---- telegrams ---- */
+
+/* Reads the telegram that the bytes begin with. 0: told is
+ *   [0] kind: 1 short confirmation, 2 token, 3 data   [1] the telegram's length in bytes
+ *   [2] da  [3] sa  [4] DSAP  [5] SSAP  [6] function code, each KOY_ABSENT where the telegram has none
+ *   [7] where the PDU starts in the bytes  [8] the PDU's length
+ * The function code is the one that would be written: a response's bit 7 is clear.
+ * 1 to 7: refused; KOY_INCOMPLETE: more bytes are needed. told stays. */
+uint8_t koy_read(const uint8_t *bytes, size_t bytes_len, size_t told[9]);
+
+/* Writes a data telegram to the front of buf. A dsap or ssap of 256 and above is absent. 0: told is
+ *   [0] the bytes written   [1] the station that is to reply, or KOY_ABSENT
+ * 4: fc is no function code; 8, 9, 10 in this order. (FDL status request: fc 0x49, no PDU.) */
+uint8_t koy_write_data(uint8_t da, uint8_t sa, size_t dsap, size_t ssap, uint8_t fc, const uint8_t *pdu, size_t pdu_len,
+                       uint8_t *buf, size_t buf_len, size_t told[2]);
+
+/* Writes a token, 3 bytes. 10. */
+uint8_t koy_write_token(uint8_t da, uint8_t sa, uint8_t *buf, size_t buf_len);
+
+/* Writes a short confirmation, 1 byte. 10. */
+uint8_t koy_write_confirmation(uint8_t *buf, size_t buf_len);
+
+/* ---- the station list ---- */
+
+/* [0] phase: 0 Uninitialized, 1 Discovery, 2 Verification, 3 Valid; any other counts as 0
+ * [1] own  [2] next  [3] previous station  [4..131] a flag for each address; any byte but 0 counts as set */
+#define KOY_STATIONS_SIZE 132
+
+/* A fresh list. 11. */
+uint8_t koy_stations_new(uint8_t state[132], uint8_t own);
+/* A token pass sa to da was seen. An address above 125 changes nothing. */
+void koy_stations_witness(uint8_t state[132], uint8_t sa, uint8_t da);
+/* The token was claimed: the phase is Valid. */
+void koy_stations_claim(uint8_t state[132]);
+/* Sets the next station. 11. */
+uint8_t koy_stations_set_next(uint8_t state[132], uint8_t address);
+/* Removes a station. 11. */
+uint8_t koy_stations_remove(uint8_t state[132], uint8_t address);
+/* told: [0] phase  [1] own  [2] next  [3] previous */
+void koy_stations_about(const uint8_t state[132], size_t told[4]);
+bool koy_stations_is_active(const uint8_t state[132], uint8_t address);
+/* The first active station from an address upward, or KOY_ABSENT. */
+size_t koy_stations_first_from(const uint8_t state[132], uint8_t address);
+/* The last active station up to an address, or KOY_ABSENT. */
+size_t koy_stations_last_to(const uint8_t state[132], uint8_t address);
+
+/* ---- extended diagnostics ---- */
+
+/* One step of the walk over the first `walked` bytes of the store, from cursor[0] on (0 to begin). 0: cursor[0] stands behind the
+ * block, and told is
+ *   [0] kind: 1 identifier, 2 device, 3 channel
+ *   [1] start and [2] length of the body in the store (identifier, device; else 0)
+ *   [3] module  [4] channel  [5] input  [6] output  [7] type, 1 to 7  [8] error, 0 to 31 (channel; else 0)
+ * KOY_AT_END: nothing moves. 12, 13, 14: told stays and cursor[0] moves to the end. */
+uint8_t koy_diagnostics_step(const uint8_t *store, size_t store_len, size_t walked, size_t cursor[1], size_t told[9]);
+/* The bytes go to the front of the store and walked[0] becomes their number: true. No store, or too short a one: false, all stays. */
+bool koy_diagnostics_fill(uint8_t *store, size_t store_len, size_t walked[1], const uint8_t *bytes, size_t bytes_len);
+/* Whether a module's bit is set in the body of an identifier block. */
+bool koy_diagnostics_module(const uint8_t *body, size_t body_len, size_t module);
+
+/* ---- settings of a link ---- */
+
+/* Reads a settings text. 0: told is [0] own [1] peer [2] tries. 20, 18, 19 in this order. */
+uint8_t koy_settings_read(const uint8_t *text, size_t text_len, size_t told[3]);
+/* Writes one to the front of buf; told[0] is its length. 18, 19, 10 in this order. */
+uint8_t koy_settings_write(uint8_t own, uint8_t peer, uint8_t tries, uint8_t *buf, size_t buf_len, size_t told[1]);
+
+/* ---- the order link, head end (libexports_link.a) ---- */
+
+/* [0] own  [1] peer  [2] tries  [3] phase: 0 closed, 1 ready for Low, 2 ready for High, 3 opening, 4 order under Low, 5 order
+ * under High; any other counts as 0  [4] telegrams written in the phase  [5] the order's length, above 246 counts as 246
+ * [6..251] the order */
+#define KOY_INITIATOR_SIZE 252
+
+/* Calls that may write want 255 bytes of room: 10 otherwise. What they tell:
+ *   KOY_SENT: [0] the telegram's length
+ *   KOY_CONFIRMED: the reply is heard[told[0]], told[1] bytes; [2] tries
+ *   KOY_NOT_SENT, KOY_UNKNOWN: [2] tries
+ *   0: nothing to do. What is not named is 0.
+ * tries are the telegrams written in the order's last phase. */
+
+/* A link that is closed. tries 1 to 8 (2 is the default). 18, 19. */
+uint8_t koy_initiator_new(uint8_t state[252], uint8_t own, uint8_t peer, uint8_t tries);
+/* Submits an order of 1 to 246 bytes. KOY_SENT; 10, 17, 16 in this order. */
+uint8_t koy_initiator_submit(uint8_t state[252], const uint8_t *order, size_t order_len, uint8_t *buf, size_t buf_len,
+                             size_t told[3]);
+/* Nothing was heard in time. KOY_SENT, KOY_NOT_SENT, KOY_UNKNOWN or 0; 10. */
+uint8_t koy_initiator_silence(uint8_t state[252], uint8_t *buf, size_t buf_len, size_t told[3]);
+/* These bytes were heard. KOY_SENT, KOY_CONFIRMED or 0; 10. */
+uint8_t koy_initiator_hear(uint8_t state[252], const uint8_t *heard, size_t heard_len, uint8_t *buf, size_t buf_len,
+                           size_t told[3]);
+/* Closes the link and gives a pending order up. KOY_NOT_SENT, KOY_UNKNOWN or 0. */
+uint8_t koy_initiator_restart(uint8_t state[252], size_t told[3]);
+
+/* ---- the order link, cabinet (libexports_link.a) ---- */
+
+/* [0] own  [1] peer  [2] 0 blank, 1 opened, 2 owes the reply to an order under Low, 3 under High, 4 holds the reply to an order
+ * under Low, 5 under High; any other counts as 0  [3] the held reply's length, above 246 counts as 246
+ * [4..249] the held reply */
+#define KOY_RESPONDER_SIZE 250
+
+/* A responder that remembers nothing. 18. */
+uint8_t koy_responder_new(uint8_t state[250], uint8_t own, uint8_t peer);
+/* These bytes were heard. KOY_SENT: told[0] is the telegram's length. KOY_HANDED_UP: the order is heard[told[0]], told[1]
+ * bytes. 0: nothing to do. 10. */
+uint8_t koy_responder_hear(uint8_t state[250], const uint8_t *heard, size_t heard_len, uint8_t *buf, size_t buf_len,
+                           size_t told[2]);
+/* The application's reply of up to 246 bytes to the order handed up. KOY_SENT; 10, 21, 9 in this order. */
+uint8_t koy_responder_answer(uint8_t state[250], const uint8_t *reply, size_t reply_len, uint8_t *buf, size_t buf_len,
+                             size_t told[2]);
+/* Forgets all. */
+void koy_responder_restart(uint8_t state[250]);
+
+#ifdef __cplusplus
+}
+#endif
+
+#endif

@@ -1,0 +1,20 @@
+//! Proved fieldbus functions for Rust: PROFIBUS telegrams, the station list, extended diagnostics, and an order link that
+//! carries each order out at most once. A safe wrapper over the static libraries `libexports.a` and `libexports_link.a`,
+//! which are written in Rattle; every call is proved to answer every input as document 01 says. No dependencies.
+//!
+//! A refused call returns the [`Refusal`] with document 01's number and leaves all that it was lent as it came.
+
+mod diagnostics;
+mod ffi;
+mod link;
+mod refusal;
+mod settings;
+mod stations;
+mod telegram;
+
+pub use diagnostics::{fill, module_is_set, Block, Walk};
+pub use link::{Initiator, InitiatorAnswer, Responder, ResponderAnswer, DEFAULT_TRIES, LONGEST_ORDER, ROOM};
+pub use refusal::Refusal;
+pub use settings::Settings;
+pub use stations::{Phase, StationList};
+pub use telegram::{read, write_confirmation, write_data, write_token, Header, Reading, Sent, Telegram};

@@ -1,0 +1,4 @@
+mod ByteLaws
+mod CallLaws
+pub mod InitiatorLossless
+pub mod ResponderLossless

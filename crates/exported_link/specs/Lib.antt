@@ -1,0 +1,4 @@
+pub mod InitiatorBytes
+pub mod InitiatorCalls
+pub mod ResponderBytes
+pub mod ResponderCalls

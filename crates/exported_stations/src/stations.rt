@@ -1,0 +1,139 @@
+ghost use mathlib.Core.Path.{_≡_};
+ghost use Prim.Native.Nat.{suc};
+ghost use lib.ListN.{length};
+ghost use Rattle.codes.specs.Refusals.{shown};
+ghost use Rattle.token_ring.specs.Flags.{active, lowestFrom, highestBelow, shownFound};
+ghost use Rattle.token_ring.specs.Rules.{claimed, made, nextSet, removed, stationAnswer, witnessed};
+ghost use Rattle.exported_stations.specs.Bytes.{stationsOf, stationsBytes};
+ghost use Rattle.exported_stations.specs.Calls.{aboutOf, crossed, foundNumber};
+use crate::bytes::pack;
+use crate::bytes::phase_number;
+use crate::bytes::unpack;
+use codes::Address;
+use codes::Answer;
+use token_ring::Changed;
+use token_ring::Found;
+use token_ring::TokenRing;
+
+fn wide(x: u8) -> usize
+    ensures { λ r. ⌜ r ≡ x ⌝ }
+{
+    x as usize
+}
+
+// A refused call left the list as it came, so its bytes are not touched.
+fn finish(changed: Changed, state: &mut [u8; 132]) -> u8
+    requires { ⌜ length (now state) ≡ 132 ⌝ }
+    ensures { λ r. ⌜ record { code = r; state = now (state .exit) } ≡ crossed (now (state .entry)) (shown (changed .answer)) (changed .ring) ⌝ }
+{
+    let answer = changed.answer;
+    let ring = changed.ring;
+    match answer {
+        Answer::Done => {
+            pack(ring, state);
+            0
+        }
+        Answer::Refused(refusal) => refusal.number(),
+    }
+}
+
+// Nothing of the old bytes is read but their number, which the array's type gives.
+fn size(bytes: [u8; 132]) -> usize
+    ensures { λ r. ⌜ (r ≡ 132) × (length bytes ≡ 132) ⌝ }
+{
+    132
+}
+
+// Refusal 11.
+pub fn stations_new(state: &mut [u8; 132], own: u8) -> u8
+    ensures { λ r. ⌜ record { code = r; state = now (state .exit) } ≡ crossed (now (state .entry)) (stationAnswer own) (made own) ⌝ }
+{
+    let bytes = *state;
+    size(bytes);
+    finish(TokenRing::new(Address(own)), state)
+}
+
+pub fn stations_witness(state: &mut [u8; 132], sa: u8, da: u8)
+    ensures { λ _. ⌜ now (state .exit) ≡ stationsBytes (witnessed sa da (stationsOf (now (state .entry)))) ⌝ }
+{
+    let bytes = *state;
+    let ring = unpack(bytes);
+    pack(ring.witness_token_pass(Address(sa), Address(da)), state);
+}
+
+pub fn stations_claim(state: &mut [u8; 132])
+    ensures { λ _. ⌜ now (state .exit) ≡ stationsBytes (claimed (stationsOf (now (state .entry)))) ⌝ }
+{
+    let bytes = *state;
+    let ring = unpack(bytes);
+    pack(ring.claim_token(), state);
+}
+
+// Refusal 11.
+pub fn stations_set_next(state: &mut [u8; 132], address: u8) -> u8
+    ensures { λ r. ⌜ record { code = r; state = now (state .exit) } ≡ crossed (now (state .entry)) (stationAnswer address) (nextSet address (stationsOf (now (state .entry)))) ⌝ }
+{
+    let bytes = *state;
+    let ring = unpack(bytes);
+    finish(ring.set_next_station(Address(address)), state)
+}
+
+// Refusal 11.
+pub fn stations_remove(state: &mut [u8; 132], address: u8) -> u8
+    ensures { λ r. ⌜ record { code = r; state = now (state .exit) } ≡ crossed (now (state .entry)) (stationAnswer address) (removed address (stationsOf (now (state .entry)))) ⌝ }
+{
+    let bytes = *state;
+    let ring = unpack(bytes);
+    finish(ring.remove_station(Address(address)), state)
+}
+
+fn about(ring: TokenRing) -> [usize; 4]
+    ensures { λ r. ⌜ r ≡ aboutOf ring ⌝ }
+{
+    let phase = wide(phase_number(ring.las_state()));
+    let own = ring.this_station();
+    let next = ring.next_station();
+    let previous = ring.previous_station();
+    [phase, wide(own.0), wide(next.0), wide(previous.0)]
+}
+
+pub fn stations_about(state: &[u8; 132], told: &mut [usize; 4])
+    ensures { λ _. ⌜ now (told .exit) ≡ aboutOf (stationsOf (now (state .entry))) ⌝ }
+{
+    let bytes = *state;
+    let ring = unpack(bytes);
+    *told = about(ring);
+}
+
+pub fn stations_is_active(state: &[u8; 132], address: u8) -> bool
+    ensures { λ r. ⌜ r ≡ active (stationsOf (now (state .entry)) .«active_stations») address ⌝ }
+{
+    let bytes = *state;
+    let ring = unpack(bytes);
+    ring.is_active(Address(address))
+}
+
+fn found_number(found: Found) -> usize
+    ensures { λ r. ⌜ r ≡ foundNumber (shownFound found) ⌝ }
+{
+    match found {
+        Found::Station(a) => wide(a.0),
+        Found::Nothing => 256,
+    }
+}
+
+pub fn stations_first_from(state: &[u8; 132], address: u8) -> usize
+    ensures { λ r. ⌜ r ≡ foundNumber (lowestFrom address (stationsOf (now (state .entry)) .«active_stations»)) ⌝ }
+{
+    let bytes = *state;
+    let ring = unpack(bytes);
+    found_number(ring.first_active_from(Address(address)))
+}
+
+pub fn stations_last_to(state: &[u8; 132], address: u8) -> usize
+    ensures { λ r. ⌜ r ≡ foundNumber (highestBelow (suc address) (stationsOf (now (state .entry)) .«active_stations»)) ⌝ }
+{
+    let bytes = *state;
+    let ring = unpack(bytes);
+    found_number(ring.last_active_to(Address(address)))
+}

@@ -1,0 +1,114 @@
+ghost use mathlib.Core.Path.{_≡_};
+ghost use Prim.Native.Nat.{ℕ};
+ghost use mathlib.Core.List.{List, [], _∷_};
+ghost use lib.ListN.{length};
+ghost use Rattle.exported_telegrams.specs.Write.{addressNumber, codedCall, headerOf, outcomeCode, sapOf, writeCall, writeDataCall};
+ghost use Rattle.telegram_tx.specs.Writing.{shownWriting, writeOf, bufferOf, writeTokenOf, tokenBufferOf, writeConfirmationOf, confirmationBufferOf};
+use crate::reading::ABSENT;
+use crate::reading::wide;
+use codes::Address;
+use codes::FunctionCode;
+use codes::FunctionCodeFound;
+use codes::Refusal;
+use codes::Sap;
+use telegram::AddressOption;
+use telegram::DataTelegramHeader;
+use telegram::SapOption;
+use telegram_tx::TelegramTxResponse;
+use telegram_tx::TelegramTxResult;
+use telegram_tx::send_data_telegram;
+use telegram_tx::send_short_confirmation;
+use telegram_tx::send_token_telegram;
+
+fn sap_of(n: usize) -> SapOption
+    ensures { λ r. ⌜ r ≡ sapOf n ⌝ }
+{
+    if n < 256 {
+        return SapOption::Some(Sap(n as u8));
+    }
+    SapOption::None
+}
+
+fn header_of(da: u8, sa: u8, dsap: usize, ssap: usize, fc: FunctionCode) -> DataTelegramHeader
+    ensures { λ r. ⌜ r ≡ headerOf da sa dsap ssap fc ⌝ }
+{
+    let d = sap_of(dsap);
+    let s = sap_of(ssap);
+    DataTelegramHeader {
+        da: Address(da),
+        sa: Address(sa),
+        dsap: d,
+        ssap: s,
+        fc,
+    }
+}
+
+fn address_number(address: AddressOption) -> usize
+    ensures { λ r. ⌜ r ≡ addressNumber address ⌝ }
+{
+    match address {
+        AddressOption::Some(a) => wide(a.0),
+        AddressOption::None => ABSENT,
+    }
+}
+
+fn tell(result: TelegramTxResult, told: &mut [usize; 2]) -> u8
+    ensures { λ r. ⌜ ((buf : List ℕ) → record { code = r; told = now (told .exit); buffer = buf } ≡ writeCall (shownWriting result) (now (told .entry)) buf) ⌝ }
+{
+    match result {
+        TelegramTxResult::Sent(response) => {
+            *told = sent_told(response);
+            0
+        }
+        TelegramTxResult::Refused(refusal) => refusal.number(),
+    }
+}
+
+fn sent_told(response: TelegramTxResponse) -> [usize; 2]
+    ensures { λ r. ⌜ r ≡ response .«bytes_sent» ∷ addressNumber (response .«expects_reply») ∷ [] ⌝ }
+{
+    let bytes = response.bytes_sent();
+    let replier = address_number(response.expects_reply());
+    [bytes, replier]
+}
+
+// Refusals 4, 8, 9, 10, in this order.
+pub fn write_data(
+    da: u8,
+    sa: u8,
+    dsap: usize,
+    ssap: usize,
+    fc: u8,
+    pdu: &[u8],
+    buf: &mut [u8],
+    told: &mut [usize; 2],
+) -> u8
+    ensures { λ r. ⌜ record { code = r; told = now (told .exit); buffer = now (buf .exit) } ≡ writeDataCall da sa dsap ssap fc (now (pdu .entry)) (now (told .entry)) (now (buf .entry)) ⌝ }
+{
+    let FunctionCodeFound::Is(code) = FunctionCode::from_byte(fc) else {
+        return Refusal::FunctionCode.number();
+    };
+    let header = header_of(da, sa, dsap, ssap, code);
+    tell(send_data_telegram(header, pdu, buf), told)
+}
+
+fn code_of(result: TelegramTxResult) -> u8
+    ensures { λ r. ⌜ r ≡ outcomeCode (shownWriting result) ⌝ }
+{
+    match result {
+        TelegramTxResult::Sent(_) => 0,
+        TelegramTxResult::Refused(refusal) => refusal.number(),
+    }
+}
+
+pub fn write_token(da: u8, sa: u8, buf: &mut [u8]) -> u8
+    ensures { λ r. ⌜ (r ≡ outcomeCode (writeTokenOf (record { 0 = da }) (record { 0 = sa }) (length (now (buf .entry))))) × (now (buf .exit) ≡ tokenBufferOf (record { 0 = da }) (record { 0 = sa }) (now (buf .entry))) ⌝ }
+{
+    code_of(send_token_telegram(Address(da), Address(sa), buf))
+}
+
+pub fn write_confirmation(buf: &mut [u8]) -> u8
+    ensures { λ r. ⌜ (r ≡ outcomeCode (writeConfirmationOf (length (now (buf .entry))))) × (now (buf .exit) ≡ confirmationBufferOf (now (buf .entry))) ⌝ }
+{
+    code_of(send_short_confirmation(buf))
+}

@@ -1,0 +1,4 @@
+pub mod Demand2
+pub mod OneOutcome
+pub mod Samples
+pub mod StationLists

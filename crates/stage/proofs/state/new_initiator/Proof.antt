@@ -1,0 +1,18 @@
+-- `new_initiator` meets its contract: with these addresses the end is made.
+-- Assumes nothing.
+use mathlib.Core.Path.{ap}
+use Rattle.initiator.specs.Records.{Made, madeOf}
+use borrow.Author.Needs.{needs}
+use Rattle.stage.proofs.state.new_initiator.Statement.{statement}
+use Rattle.stage.proofs.state.new_initiator.Tie as tie
+
+returns : tie.Need-returns
+unfolding madeOf
+returns c = ap (λ (m : Made). m .initiator) (c .before .with-default-tries .ensures)
+
+pub new-initiator-spec : {M : Type 1} → statement M
+new-initiator-spec =
+    tie.close
+    (tie.spec
+    (λ c κs. search needs)
+    returns)

@@ -1,0 +1,18 @@
+-- `new_responder` meets its contract: with these addresses the end is made.
+-- Assumes nothing.
+use mathlib.Core.Path.{ap}
+use Rattle.responder.specs.Records.{Made, madeOf}
+use borrow.Author.Needs.{needs}
+use Rattle.stage.proofs.state.new_responder.Statement.{statement}
+use Rattle.stage.proofs.state.new_responder.Tie as tie
+
+returns : tie.Need-returns
+unfolding madeOf
+returns c = ap (λ (m : Made). m .responder) (c .before .new .ensures)
+
+pub new-responder-spec : {M : Type 1} → statement M
+new-responder-spec =
+    tie.close
+    (tie.spec
+    (λ c κs. search needs)
+    returns)

@@ -1,0 +1,133 @@
+ghost use mathlib.Core.Path.{_≡_};
+ghost use Rattle.stage.specs.Stages.{fresh, noTally, withEnds, anewOf, restartedOf, lostOf};
+use codes::Address;
+use initiator::Initiator;
+use initiator::InitiatorAnswer;
+use responder::Responder;
+use responder::ResponderAnswer;
+
+// What has happened so far. A number stops at 255.
+pub struct Tally {
+    // Orders that a submission took.
+    pub orders: u8,
+    pub confirmed: u8,
+    pub not_sent: u8,
+    pub unknown: u8,
+    // Orders that the cabinet handed up, which is their carrying out.
+    pub carried_out: u8,
+}
+
+pub struct Stage {
+    pub(crate) initiator: Initiator,
+    pub(crate) responder: Responder,
+    // The telegram on the line is the first `len` bytes; none is there where `len` is 0.
+    pub(crate) line: [u8; 255],
+    pub(crate) len: usize,
+    pub(crate) tally: Tally,
+}
+
+// A call of the head end or of the cabinet: its answer, and the stage afterwards.
+pub struct InitiatorStep {
+    pub answer: InitiatorAnswer,
+    pub stage: Stage,
+}
+
+pub struct ResponderStep {
+    pub answer: ResponderAnswer,
+    pub stage: Stage,
+}
+
+// The head end's station and the cabinet's.
+const HEAD_END: u8 = 2;
+
+const CABINET: u8 = 5;
+
+fn no_tally() -> Tally
+    ensures { λ r. ⌜ r ≡ noTally ⌝ }
+{
+    Tally {
+        orders: 0,
+        confirmed: 0,
+        not_sent: 0,
+        unknown: 0,
+        carried_out: 0,
+    }
+}
+
+fn new_initiator() -> Initiator
+    ensures { λ r. ⌜ r ≡ fresh .initiator ⌝ }
+{
+    let made = Initiator::with_default_tries(Address(HEAD_END), Address(CABINET));
+    made.initiator
+}
+
+fn new_responder() -> Responder
+    ensures { λ r. ⌜ r ≡ fresh .responder ⌝ }
+{
+    let made = Responder::new(Address(CABINET), Address(HEAD_END));
+    made.responder
+}
+
+impl Stage {
+    // Two ends that name each other, made with the default number of tries, and an idle line.
+    pub fn new() -> Stage
+        ensures { λ r. ⌜ r ≡ fresh ⌝ }
+    {
+        let initiator = new_initiator();
+        let responder = new_responder();
+        let line = [0u8; 255];
+        let tally = no_tally();
+        Stage {
+            initiator,
+            responder,
+            line,
+            len: 0,
+            tally,
+        }
+    }
+
+    pub fn tally(self) -> Tally
+        ensures { λ r. ⌜ r ≡ self .tally ⌝ }
+    {
+        self.tally
+    }
+
+    // The same stage with these ends; what was on the line is gone.
+    fn with_ends(self, initiator: Initiator, responder: Responder) -> Stage
+        ensures { λ r. ⌜ r ≡ withEnds self initiator responder ⌝ }
+    {
+        let line = self.line;
+        let tally = self.tally;
+        Stage {
+            initiator,
+            responder,
+            line,
+            len: 0,
+            tally,
+        }
+    }
+
+    // The head end loses its record and starts with one made anew.
+    pub fn make_initiator_anew(self) -> Stage
+        ensures { λ r. ⌜ r ≡ anewOf self ⌝ }
+    {
+        let responder = self.responder;
+        self.with_ends(new_initiator(), responder)
+    }
+
+    pub fn restart_responder(self) -> Stage
+        ensures { λ r. ⌜ r ≡ restartedOf self ⌝ }
+    {
+        let initiator = self.initiator;
+        let responder = self.responder;
+        self.with_ends(initiator, responder.restart())
+    }
+
+    // The line loses the telegram on it.
+    pub fn lose(mut self) -> Stage
+        ensures { λ r. ⌜ r ≡ lostOf self ⌝ }
+    {
+        self.len = 0;
+        self
+    }
+}

@@ -43,9 +43,10 @@ pub fn twin(command: &str) -> String {
     let words: Vec<&str> = command.split(' ').collect();
     match words[..] {
         ["step", store, _, cursor] => format!("step {store} {} {cursor}", byte_count(store)),
-        ["ring", own, ref ops @ ..] => {
+        ["raw", store, _] => format!("raw {store} {}", byte_count(store)),
+        [name @ ("ring" | "ready"), own, ref ops @ ..] => {
             let ops = ops.iter().map(|op| if is_bad(op) { format!(" {}:255", &op[..1]) } else { format!(" {op}") });
-            format!("ring {own}{}", ops.collect::<String>())
+            format!("{name} {own}{}", ops.collect::<String>())
         }
         _ => command.to_string(),
     }
@@ -73,7 +74,7 @@ fn length_byte(dsap: &str, ssap: &str, pdu: &str) -> usize {
 }
 
 fn large_address(case: &Case) -> Option<String> {
-    let ["write", da, sa, ..] = case.words[..] else { return None };
+    let ["write" | "wstatus" | "wstate", da, sa, ..] = case.words[..] else { return None };
     (number(da) > 127 || number(sa) > 127).then_some("refused 8".to_string())
 }
 
@@ -90,6 +91,7 @@ fn no_room(case: &Case) -> Option<String> {
             11 => (14, room),
             length => (length + 6, room),
         },
+        ["wstatus", _, _, room] | ["wstate", _, _, _, _, room] => (6, room),
         ["wtoken", _, _, room] => (3, room),
         ["wack", room] => (1, room),
         _ => return None,
@@ -98,14 +100,14 @@ fn no_room(case: &Case) -> Option<String> {
 }
 
 fn own_address(case: &Case) -> Option<String> {
-    let ["ring", own, ..] = case.words[..] else { return None };
+    let ["ring" | "ready", own, ..] = case.words[..] else { return None };
     let taken_or_panic = (case.rust == "panic") == (number(own) > 127);
     (taken_or_panic && number(own) > 125).then_some("refused-11".to_string())
 }
 
 /// The twin's walk has a panic in the place of each refused op, and no other.
 fn no_station(case: &Case) -> Option<String> {
-    let ["ring", _, ref ops @ ..] = case.words[..] else { return None };
+    let ["ring" | "ready", _, ref ops @ ..] = case.words[..] else { return None };
     let bad = ops.iter().filter(|op| is_bad(op)).count();
     let as_wanted = bad > 0 && case.twin.matches("panic ").count() == bad;
     as_wanted.then(|| case.twin.replace("panic ", "refused-11 "))
@@ -118,7 +120,7 @@ fn empty_store(case: &Case) -> Option<String> {
 }
 
 fn long_walk(case: &Case) -> Option<String> {
-    let ["step", store, length, _] = case.words[..] else { return None };
+    let (["step", store, length, _] | ["raw", store, length]) = case.words[..] else { return None };
     let panics = case.rust == "panic" && case.twin != "panic";
     (panics && number(length) > byte_count(store)).then(|| case.twin.to_string())
 }

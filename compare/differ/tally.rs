@@ -28,7 +28,7 @@ pub struct Tally {
 impl Tally {
     pub fn inside(&mut self, command: &str, ours: &str, rust: &str) {
         let kind = command.split(' ').next().unwrap_or_default();
-        if kind == "ring" {
+        if matches!(kind, "ring" | "ready") {
             self.ring_calls += command.split(' ').count() - 2;
         }
         let count = self.kinds.entry(kind.to_string()).or_default();

@@ -1,4 +1,4 @@
-//! `diag`, `step` and `store` on stores of length above 0 whose walk meets no zero length.
+//! `diag`, `step`, `raw` and `store` on stores of length above 0 whose walk meets no zero length.
 use crate::chunks::{hex, Chunks};
 use crate::random::Random;
 
@@ -30,6 +30,7 @@ pub fn make(chunks: &mut Chunks, seed: u64, size: usize) {
     identifier_bits(chunks);
     random_walks(chunks, &mut Random::new(seed, "diag"), size / 2);
     steps(chunks, &mut Random::new(seed, "step"), size / 300);
+    raws(chunks, &mut Random::new(seed, "raw"), size / 300);
     stores(chunks, &mut Random::new(seed, "store"), size / 5);
 }
 
@@ -134,6 +135,19 @@ fn steps(chunks: &mut Chunks, random: &mut Random, size: usize) {
                     chunks.push("step", &format!("step {} {length} {cursor}", hex(&store)));
                 }
             }
+        }
+    }
+}
+
+/// Of no store, small ones and large ones every walked length up to the store's, or many. No walk, so any bytes will do.
+fn raws(chunks: &mut Chunks, random: &mut Random, size: usize) {
+    chunks.push("raw", "raw - 0");
+    for round in 0..size {
+        let longest = if round % 50 == 0 { 4_200 } else { 12 };
+        let store = random.between(1, longest);
+        let store = random.bytes(store);
+        for length in (0..=store.len()).step_by(store.len() / 12 + 1).chain([store.len()]) {
+            chunks.push("raw", &format!("raw {} {length}", hex(&store)));
         }
     }
 }

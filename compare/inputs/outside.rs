@@ -30,6 +30,11 @@ fn large_addresses(chunks: &mut Chunks, random: &mut Random) {
                     chunks.push("write", &write.command(room));
                 }
             }
+            let [da, sa] = addresses;
+            for room in [0, 6, 20] {
+                chunks.push("wstatus", &format!("wstatus {da} {sa} {room}"));
+                chunks.push("wstate", &format!("wstate {da} {sa} 0 8 {room}"));
+            }
         }
     }
 }
@@ -72,12 +77,17 @@ fn no_room(chunks: &mut Chunks, random: &mut Random) {
         chunks.push("wtoken", &format!("wtoken 255 255 {room}"));
     }
     chunks.push("wack", "wack 0");
+    for room in 0..6 {
+        chunks.push("wstatus", &format!("wstatus 5 2 {room}"));
+        chunks.push("wstate", &format!("wstate 5 2 0 0 {room}"));
+    }
 }
 
 fn own_addresses(chunks: &mut Chunks) {
     for own in HIGHEST + 1..=255 {
         chunks.push("ring", &format!("ring {own}"));
         chunks.push("ring", &format!("ring {own} c s:3 w:3:3"));
+        chunks.push("ready", &format!("ready {own} c"));
     }
 }
 
@@ -88,6 +98,7 @@ fn set_and_removed(chunks: &mut Chunks, random: &mut Random) {
             let bad = format!("{op}:{address}");
             let [a, b, c] = [(); 3].map(|()| random.between(0, HIGHEST));
             chunks.push("ring", &format!("ring {a} {bad}"));
+            chunks.push("ready", &format!("ready {a} {bad} c {bad}"));
             chunks.push("ring", &format!("ring {a} s:{b} {bad} w:{c}:{b} {bad} c r:{b} {bad} s:{a}"));
             chunks.push("ring", &format!("ring {a} w:{b}:{b} w:{c}:{a} {bad} w:{a}:{c} {bad}"));
         }
@@ -130,6 +141,7 @@ fn empty_stores(chunks: &mut Chunks) {
 fn long_walks(chunks: &mut Chunks, random: &mut Random) {
     for _ in 0..300 {
         let store = blocks(random, 6);
+        chunks.push("raw", &format!("raw {} {}", hex(&store), store.len() + random.between(1, 40)));
         for cursor in 0..store.len() + 3 {
             if cursor >= store.len() || store[cursor] & 0xBF != 0 {
                 let length = store.len() + random.between(1, 40);

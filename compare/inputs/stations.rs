@@ -1,4 +1,4 @@
-//! `ring`: own, set and removed addresses 0 to 125, witnessed ones 0 to 255.
+//! `ring` and `ready`: own, set and removed addresses 0 to 125, witnessed ones 0 to 255.
 use crate::chunks::Chunks;
 use crate::random::Random;
 
@@ -24,6 +24,9 @@ fn passes(chunks: &mut Chunks) {
         for &sa in &addresses {
             for &da in &addresses {
                 chunks.push("ring-pass", &format!("ring 7{lead} w:{sa}:{da}"));
+                if sa % 8 < 3 && da % 8 < 3 {
+                    chunks.push("ready", &format!("ready 7{lead} w:{sa}:{da}"));
+                }
             }
         }
     }
@@ -31,18 +34,20 @@ fn passes(chunks: &mut Chunks) {
 
 /// Every walk of four calls on stations 0 to 2, and of three on the three highest.
 fn small_worlds(chunks: &mut Chunks) {
-    for (first, calls) in [(0, 4), (HIGHEST - 2, 3)] {
+    for (family, name, first, calls) in
+        [("ring-small", "ring", 0, 4), ("ring-small", "ring", HIGHEST - 2, 3), ("ready", "ready", 0, 3)]
+    {
         let ops = ops_of(first..first + 3);
         for own in first..first + 3 {
             for walk in 0..ops.len().pow(calls) {
-                let mut command = format!("ring {own}");
+                let mut command = format!("{name} {own}");
                 let mut rest = walk;
                 for _ in 0..calls {
                     command.push(' ');
                     command.push_str(&ops[rest % ops.len()]);
                     rest /= ops.len();
                 }
-                chunks.push("ring-small", &command);
+                chunks.push(family, &command);
             }
         }
     }

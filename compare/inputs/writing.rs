@@ -1,4 +1,4 @@
-//! `write`, `wtoken`, `wack`, and the function code's own commands, in the Rust's domain.
+//! `write`, `wtoken`, `wack`, `wstatus`, `wstate`, and the function code's own commands, in the Rust's domain.
 use crate::chunks::{hex, Chunks};
 use crate::random::Random;
 use crate::telegram::good_code;
@@ -43,6 +43,7 @@ pub fn make(chunks: &mut Chunks, seed: u64, size: usize) {
     lengths(chunks, &mut Random::new(seed, "write-lengths"));
     service_access_points(chunks);
     short_telegrams(chunks);
+    status_telegrams(chunks);
     random(chunks, &mut Random::new(seed, "write"), size / 2);
 }
 
@@ -106,6 +107,25 @@ fn short_telegrams(chunks: &mut Chunks) {
     }
     for room in 1..=1_024 {
         chunks.push("wack", &format!("wack {room}"));
+    }
+}
+
+/// Every pair of addresses, every state and status, those that are none too, and many rooms.
+fn status_telegrams(chunks: &mut Chunks) {
+    for da in 0..=127 {
+        for sa in 0..=127 {
+            chunks.push("wstatus", &format!("wstatus {da} {sa} {}", 6 + (da ^ sa) % 3));
+            chunks.push("wstate", &format!("wstate {da} {sa} {} {} 6", da % 4, [0, 1, 2, 3, 8, 9, 10, 12, 13][sa % 9]));
+        }
+    }
+    for state in (0..=5).chain([255]) {
+        for status in (0..=17).chain([255]) {
+            chunks.push("wstate", &format!("wstate 5 2 {state} {status} {}", 6 + state % 2));
+        }
+    }
+    for room in 6..=1_024 {
+        chunks.push("wstatus", &format!("wstatus 127 0 {room}"));
+        chunks.push("wstate", &format!("wstate 0 127 3 8 {room}"));
     }
 }
 

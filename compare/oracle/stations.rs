@@ -11,20 +11,21 @@ enum Op {
     Remove(u8),
 }
 
-pub fn ring(own: &str, ops: &[&str]) -> Option<String> {
+/// What `shown` tells of each list.
+pub fn ring(own: &str, ops: &[&str], shown: fn(&TokenRing) -> String) -> Option<String> {
     let parameters = Parameters { address: text::byte(own)? };
     let ops: Vec<Op> = ops.iter().map(|op| read_op(op)).collect::<Option<_>>()?;
     let Ok(mut ring) = original(|| TokenRing::new(&parameters)) else {
         return Some("panic".to_string());
     };
-    let mut states = vec![state(&ring)];
+    let mut states = vec![shown(&ring)];
     for op in &ops {
         let before = ring.clone();
         states.push(match original(|| apply(&mut ring, op)) {
-            Ok(()) => state(&ring),
+            Ok(()) => shown(&ring),
             Err(Panicked) => {
                 ring = before;
-                format!("panic {}", state(&ring))
+                format!("panic {}", shown(&ring))
             }
         });
     }
@@ -51,7 +52,11 @@ fn apply(ring: &mut TokenRing, op: &Op) {
     }
 }
 
-fn state(ring: &TokenRing) -> String {
+pub fn ready(ring: &TokenRing) -> String {
+    u8::from(ring.ready_for_ring()).to_string()
+}
+
+pub fn state(ring: &TokenRing) -> String {
     let active = text::list(ring.iter_active_stations());
     format!("{} {} {} {active}", ring.phase(), ring.next_station(), ring.previous_station())
 }

@@ -2,7 +2,8 @@
 use crate::caught::{original, Panicked};
 use crate::refusals;
 use crate::telegram::{
-    DataTelegram, DataTelegramHeader, FrameCountBit, FunctionCode, Telegram, TelegramTx, TelegramTxResponse,
+    DataTelegram, DataTelegramHeader, FrameCountBit, FunctionCode, ResponseState, ResponseStatus, Telegram, TelegramTx,
+    TelegramTxResponse,
 };
 use crate::text;
 
@@ -56,6 +57,20 @@ pub fn write_token(da: &str, sa: &str, room: &str) -> Option<String> {
 
 pub fn write_ack(room: &str) -> Option<String> {
     Some(written(text::room(room)?, |tx| tx.send_short_confirmation()))
+}
+
+pub fn write_status_request(da: &str, sa: &str, room: &str) -> Option<String> {
+    let (da, sa) = (text::byte(da)?, text::byte(sa)?);
+    Some(written(text::room(room)?, |tx| tx.send_fdl_status_request(da, sa)))
+}
+
+pub fn write_status_response(addresses: [&str; 2], state: &str, status: &str, room: &str) -> Option<String> {
+    let (da, sa) = (text::byte(addresses[0])?, text::byte(addresses[1])?);
+    let (state, status, room) = (text::byte(state)?, text::byte(status)?, text::room(room)?);
+    let (Some(state), Some(status)) = (ResponseState::from_u8(state), ResponseStatus::from_u8(status)) else {
+        return Some("badfc".to_string());
+    };
+    Some(written(room, |tx| tx.send_fdl_status_response(da, sa, state, status)))
 }
 
 fn written(room: usize, send: impl FnOnce(TelegramTx) -> TelegramTxResponse) -> String {

@@ -22,10 +22,22 @@ pub fn step(store: &str, length: &str, cursor: &str) -> Option<String> {
     Some(one(&mut walk).unwrap_or_else(|last| last))
 }
 
+/// What is collected, and what is left when the store is taken back. The original's `None` is no bytes.
+pub fn raw(store: &str, length: &str) -> Option<String> {
+    let mut store = text::bytes(store)?;
+    let mut diagnostics = ExtendedDiagnostics::of(&mut store, text::number(length)?);
+    let available = u8::from(diagnostics.is_available());
+    let Ok(raw) = original(|| text::hex(diagnostics.raw_diag_buffer().unwrap_or_default())) else {
+        return Some("panic".to_string());
+    };
+    let taken = diagnostics.take_buffer();
+    Some(format!("{available} {raw} | {} {}", diagnostics.length(), text::hex(&taken)))
+}
+
 pub fn store(room: &str, data: &[&str]) -> Option<String> {
     let mut store = vec![0xAA; text::room(room)?];
     let data: Vec<Vec<u8>> = data.iter().map(|data| text::bytes(data)).collect::<Option<_>>()?;
-    let mut diagnostics = ExtendedDiagnostics::of(&mut store, 0);
+    let mut diagnostics = ExtendedDiagnostics::from_buffer(managed::ManagedSlice::Borrowed(&mut store));
     let mut parts = Vec::new();
     for data in &data {
         parts.push(match original(|| diagnostics.fill(data)) {

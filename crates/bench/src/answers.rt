@@ -1,16 +1,16 @@
 // What answers are made of. Each call lays text into the buffer at a place and answers the place behind it. What would fall beyond the
-// buffer's end is dropped; `flushed` between the pieces of an answer, of which none has 8,192 bytes, keeps that from happening.
+// buffer's end is dropped; `flushed` between the pieces of an answer, of which none has half the buffer's bytes, keeps that from happening.
 use crate::words::find;
 use crate::words::front;
 use codes::Answer;
 use libc::STDOUT_FILENO;
-ghost use Prim.Native.Nat.{_<_, _≤_};
+ghost use Prim.Native.Nat.{_≤_};
 ghost use lib.ListN.{length};
 
 // As `io::large_buffer` makes it. A lent array asks no proof of its length.
 pub(crate) type Out = [u8; 65536];
 
-// More than half of the buffer is written out before another piece of an answer.
+// Half of the buffer and more is written out before another piece of an answer.
 const FULL: usize = 32768;
 
 pub(crate) fn flush(out: &Out, to: usize) {
@@ -130,33 +130,12 @@ pub(crate) fn put_list_end(out: &mut Out, to: usize, start: usize) -> usize {
     to
 }
 
-fn hex_digit(d: u8) -> u8
-    requires { ⌜ d < 16 ⌝ }
-{
-    if d < 10 { 48 + d } else { 55 + d }
-}
-
-fn put_hex_byte(out: &mut Out, to: usize, b: u8) -> usize {
-    let at = put_char(out, to, hex_digit(b / 16));
-    put_char(out, at, hex_digit(b % 16))
-}
-
-fn put_digits(out: &mut Out, to: usize, bytes: &[u8]) -> usize {
-    let mut at = to;
-    let mut i = 0;
-    while i < bytes.len() {
-        at = put_hex_byte(out, at, bytes[i]);
-        i += 1;
-    }
-    at
-}
-
 // A byte string; `-` where it is empty.
 pub(crate) fn put_hex(out: &mut Out, to: usize, bytes: &[u8]) -> usize {
     if bytes.len() == 0 {
         return put_char(out, to, b'-');
     }
-    put_digits(out, to, bytes)
+    text::put_hex(out, to, bytes)
 }
 
 pub(crate) fn put_next_hex(out: &mut Out, to: usize, bytes: &[u8]) -> usize {

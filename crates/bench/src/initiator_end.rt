@@ -9,15 +9,12 @@ use crate::answers::put_number;
 use crate::answers::put_ok_or_refused;
 use crate::answers::put_refused;
 use crate::answers::put_text;
-use crate::parts::Addresses;
-use crate::parts::RoomAndBytes;
 use crate::parts::get_addresses;
 use crate::parts::get_given;
 use crate::parts::put_part;
 use crate::parts::put_sent;
 use crate::parts::put_touched;
 use crate::reading::fcb_number;
-use crate::words::Byte;
 use crate::words::Input;
 use crate::words::get_byte;
 use crate::words::is_end;
@@ -178,20 +175,15 @@ enum NewRead {
 }
 
 fn get_new(input: &Input, at: usize) -> NewRead {
-    let Addresses::Are { own, peer, next } = get_addresses(input, at) else {
-        return NewRead::Nothing;
-    };
-    if is_end(input, next) {
-        return NewRead::Default(own, peer);
+    let addresses = get_addresses(input, at);
+    if is_end(input, addresses.next) {
+        return NewRead::Default(addresses.own, addresses.peer);
     }
-    let Byte::Is { value, next: end } = get_byte(input, next) else {
-        return NewRead::Nothing;
-    };
-    if is_end(input, end) {
-        NewRead::Stated(own, peer, value)
-    } else {
-        NewRead::Nothing
+    let tries = get_byte(input, addresses.next);
+    if is_end(input, tries.next) {
+        return NewRead::Stated(addresses.own, addresses.peer, tries.value);
     }
+    NewRead::Nothing
 }
 
 fn new(new: NewRead, old: InitiatorEnd, out: &mut Out, to: usize) -> InitiatorPlayed {
@@ -241,11 +233,19 @@ fn play_given(
     to: usize,
 ) -> InitiatorPlayed {
     let mut bytes = [0u8; 4200];
-    let RoomAndBytes::Are { room, len } = get_given(input, at, number < 3, &mut bytes) else {
+    let given = get_given(input, at, number < 3, &mut bytes);
+    if !is_end(input, given.next) {
         return no_command(end, out, to);
-    };
+    }
     let initiator = end.initiator;
-    play_call(number, initiator, shown(&bytes, len), room, out, to)
+    play_call(
+        number,
+        initiator,
+        shown(&bytes, given.len),
+        given.room,
+        out,
+        to,
+    )
 }
 
 fn restart(

@@ -22,9 +22,9 @@ use crate::initiator_end::InitiatorEnd;
 use crate::responder_end::ResponderEnd;
 use crate::words::INPUT;
 use crate::words::Input;
-use crate::words::Last;
 use crate::words::find;
-use crate::words::get_last_hex;
+use crate::words::get_hex;
+use crate::words::is_end;
 use crate::words::number_of;
 use crate::words::shown;
 use libc::STDERR_FILENO;
@@ -48,10 +48,11 @@ fn hex_answer(number: usize, bytes: &[u8], out: &mut Out, to: usize) -> usize {
 
 fn hex_command(number: usize, input: &Input, at: usize, out: &mut Out, to: usize) -> usize {
     let mut bytes = [0u8; 4200];
-    let Last::Is(len) = get_last_hex(input, at, &mut bytes) else {
+    let word = get_hex(input, at, &mut bytes);
+    if !is_end(input, word.next) {
         return put_error(out, to);
-    };
-    hex_answer(number, shown(&bytes, len), out, to)
+    }
+    hex_answer(number, shown(&bytes, word.value), out, to)
 }
 
 fn telegram_command(number: usize, input: &Input, at: usize, out: &mut Out, to: usize) -> usize {
@@ -60,15 +61,19 @@ fn telegram_command(number: usize, input: &Input, at: usize, out: &mut Out, to: 
         6 => reading::cycle(input, at, out, to),
         7 => writing::write(input, at, out, to),
         8 => writing::wtoken(input, at, out, to),
-        _ => writing::wack(input, at, out, to),
+        9 => writing::wack(input, at, out, to),
+        10 => writing::wstatus(input, at, out, to),
+        _ => writing::wstate(input, at, out, to),
     }
 }
 
 fn other_command(number: usize, input: &Input, at: usize, out: &mut Out, to: usize) -> usize {
     match number {
-        10 => stations::ring(input, at, out, to),
-        11 => walks::step(input, at, out, to),
-        12 => walks::store(input, at, out, to),
+        12 => stations::ring(input, at, true, out, to),
+        13 => stations::ring(input, at, false, out, to),
+        14 => walks::step(input, at, out, to),
+        15 => walks::raw(input, at, out, to),
+        16 => walks::store(input, at, out, to),
         _ => put_error(out, to),
     }
 }
@@ -77,12 +82,12 @@ fn plain_command(input: &Input, at: usize, out: &mut Out, to: usize) -> usize {
     let name = number_of(
         input,
         at,
-        b"read about diag settings lister fc cycle write wtoken wack ring step store ",
+        b"read about diag settings lister fc cycle write wtoken wack wstatus wstate ring ready step raw store ",
     );
     if name.number < 5 {
         return hex_command(name.number, input, name.next, out, to);
     }
-    if name.number < 10 {
+    if name.number < 12 {
         return telegram_command(name.number, input, name.next, out, to);
     }
     other_command(name.number, input, name.next, out, to)

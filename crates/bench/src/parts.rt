@@ -3,72 +3,53 @@ use crate::answers::Out;
 use crate::answers::put_hex;
 use crate::answers::put_next_number;
 use crate::answers::put_text;
-use crate::words::Byte;
 use crate::words::Bytes;
 use crate::words::Input;
-use crate::words::Last;
 use crate::words::front;
 use crate::words::get_byte;
-use crate::words::get_last_hex;
-use crate::words::get_last_room;
+use crate::words::get_hex;
 use crate::words::get_room;
 use codes::Part;
-use text::Number;
 
 // Two addresses, and the place behind them.
-pub(crate) enum Addresses {
-    Are { own: u8, peer: u8, next: usize },
-    Nothing,
+pub(crate) struct Addresses {
+    pub(crate) own: u8,
+    pub(crate) peer: u8,
+    pub(crate) next: usize,
 }
 
 pub(crate) fn get_addresses(input: &Input, at: usize) -> Addresses {
-    let Byte::Is {
-        value: own,
-        next: peer_at,
-    } = get_byte(input, at)
-    else {
-        return Addresses::Nothing;
-    };
-    let Byte::Is { value: peer, next } = get_byte(input, peer_at) else {
-        return Addresses::Nothing;
-    };
-    Addresses::Are { own, peer, next }
+    let own = get_byte(input, at);
+    let peer = get_byte(input, own.next);
+    Addresses {
+        own: own.value,
+        peer: peer.value,
+        next: peer.next,
+    }
 }
 
-// A ROOM, and the length of the byte string behind it.
-pub(crate) enum RoomAndBytes {
-    Are { room: usize, len: usize },
-    Nothing,
+// What a call that may write is given: a ROOM, and the length of the byte string behind it, with the place behind both.
+pub(crate) struct Given {
+    pub(crate) room: usize,
+    pub(crate) len: usize,
+    pub(crate) next: usize,
 }
 
-fn get_room_and_bytes(input: &Input, at: usize, bytes: &mut Bytes) -> RoomAndBytes {
-    let Number::Is { value: room, next } = get_room(input, at) else {
-        return RoomAndBytes::Nothing;
-    };
-    let Last::Is(len) = get_last_hex(input, next, bytes) else {
-        return RoomAndBytes::Nothing;
-    };
-    RoomAndBytes::Are { room, len }
-}
-
-fn get_room_alone(input: &Input, at: usize) -> RoomAndBytes {
-    let Last::Is(room) = get_last_room(input, at) else {
-        return RoomAndBytes::Nothing;
-    };
-    RoomAndBytes::Are { room, len: 0 }
-}
-
-// What a call that may write is given: a ROOM, and the byte string behind it where the call takes one.
-pub(crate) fn get_given(
-    input: &Input,
-    at: usize,
-    takes_bytes: bool,
-    bytes: &mut Bytes,
-) -> RoomAndBytes {
-    if takes_bytes {
-        get_room_and_bytes(input, at, bytes)
-    } else {
-        get_room_alone(input, at)
+// The byte string is there where the call takes one.
+pub(crate) fn get_given(input: &Input, at: usize, takes_bytes: bool, bytes: &mut Bytes) -> Given {
+    let room = get_room(input, at);
+    if !takes_bytes {
+        return Given {
+            room: room.value,
+            len: 0,
+            next: room.next,
+        };
+    }
+    let word = get_hex(input, room.next, bytes);
+    Given {
+        room: room.value,
+        len: word.value,
+        next: word.next,
     }
 }
 

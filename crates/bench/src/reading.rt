@@ -11,9 +11,7 @@ use crate::answers::put_next_hex;
 use crate::answers::put_next_number;
 use crate::answers::put_refused;
 use crate::answers::put_text;
-use crate::words::Byte;
 use crate::words::Input;
-use crate::words::Place;
 use crate::words::behind;
 use crate::words::get_byte;
 use crate::words::is_end;
@@ -129,13 +127,11 @@ fn put_status(out: &mut Out, to: usize, found: ResponseStatusFound) -> usize {
 
 // `fc BYTE`
 pub(crate) fn fc(input: &Input, at: usize, out: &mut Out, to: usize) -> usize {
-    let Byte::Is { value, next } = get_byte(input, at) else {
-        return put_error(out, to);
-    };
-    if !is_end(input, next) {
+    let byte = get_byte(input, at);
+    if !is_end(input, byte.next) {
         return put_error(out, to);
     }
-    put_found(out, to, FunctionCode::from_byte(value))
+    put_found(out, to, FunctionCode::from_byte(byte.value))
 }
 
 fn put_found(out: &mut Out, to: usize, found: FunctionCodeFound) -> usize {
@@ -208,9 +204,7 @@ fn fcb_of(number: usize) -> FcbRead {
 }
 
 fn get_fcb(input: &Input, at: usize) -> FcbRead {
-    let Place::At(word) = behind(input, at, b' ') else {
-        return FcbRead::Nothing;
-    };
+    let word = behind(input, at, b' ');
     let named = number_of(input, word, b"First High Low Inactive ");
     if is_end(input, named.next) {
         fcb_of(named.number)

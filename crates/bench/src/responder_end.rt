@@ -8,8 +8,6 @@ use crate::answers::put_hex;
 use crate::answers::put_ok_or_refused;
 use crate::answers::put_refused;
 use crate::answers::put_text;
-use crate::parts::Addresses;
-use crate::parts::RoomAndBytes;
 use crate::parts::get_addresses;
 use crate::parts::get_given;
 use crate::parts::put_part;
@@ -159,13 +157,12 @@ fn make(made: ResponderMade, old: ResponderEnd, out: &mut Out, to: usize) -> Res
 }
 
 fn new(input: &Input, at: usize, old: ResponderEnd, out: &mut Out, to: usize) -> ResponderPlayed {
-    let Addresses::Are { own, peer, next } = get_addresses(input, at) else {
-        return no_command(old, out, to);
-    };
-    if !is_end(input, next) {
+    let addresses = get_addresses(input, at);
+    if !is_end(input, addresses.next) {
         return no_command(old, out, to);
     }
-    make(Responder::new(Address(own), Address(peer)), old, out, to)
+    let made = Responder::new(Address(addresses.own), Address(addresses.peer));
+    make(made, old, out, to)
 }
 
 // The names of the calls that may write are 1 and 2.
@@ -200,11 +197,19 @@ fn play_given(
     to: usize,
 ) -> ResponderPlayed {
     let mut bytes = [0u8; 4200];
-    let RoomAndBytes::Are { room, len } = get_given(input, at, true, &mut bytes) else {
+    let given = get_given(input, at, true, &mut bytes);
+    if !is_end(input, given.next) {
         return no_command(end, out, to);
-    };
+    }
     let responder = end.responder;
-    play_call(number, responder, shown(&bytes, len), room, out, to)
+    play_call(
+        number,
+        responder,
+        shown(&bytes, given.len),
+        given.room,
+        out,
+        to,
+    )
 }
 
 fn restart(

@@ -1,7 +1,8 @@
-// `ring OWN OP…`
+// `ring OWN OP…`, `ready OWN OP…`
 use crate::answers::Out;
 use crate::answers::flushed;
 use crate::answers::put_bar;
+use crate::answers::put_bool;
 use crate::answers::put_char;
 use crate::answers::put_error;
 use crate::answers::put_list_end;
@@ -9,13 +10,12 @@ use crate::answers::put_listed;
 use crate::answers::put_name;
 use crate::answers::put_next_byte;
 use crate::answers::put_refusal;
-use crate::words::Byte;
 use crate::words::Input;
-use crate::words::Place;
+use crate::words::NOWHERE;
 use crate::words::behind;
-use crate::words::behind_last;
 use crate::words::byte_behind;
 use crate::words::byte_word;
+use crate::words::ended;
 use crate::words::get_byte;
 use crate::words::is_end;
 use codes::Address;
@@ -31,72 +31,73 @@ enum Op {
     Remove(u8),
 }
 
-// An op that was read, with the place behind it.
-enum OpRead {
-    Is(Op, usize),
-    Nothing,
+// An op, with the place behind it.
+struct OpWord {
+    op: Op,
+    next: usize,
 }
 
 // SA and DA, each behind a colon.
-fn get_witness(input: &Input, at: usize) -> OpRead {
-    let Byte::Is {
-        value: sa,
-        next: da_at,
-    } = byte_behind(input, at, b':')
-    else {
-        return OpRead::Nothing;
-    };
-    let Byte::Is { value: da, next } = byte_word(input, da_at, b':') else {
-        return OpRead::Nothing;
-    };
-    OpRead::Is(Op::Witness(sa, da), next)
+fn get_witness(input: &Input, at: usize) -> OpWord {
+    let sa = byte_behind(input, at, b':');
+    let da = byte_word(input, sa.next, b':');
+    OpWord {
+        op: Op::Witness(sa.value, da.value),
+        next: da.next,
+    }
 }
 
-fn get_set_next(input: &Input, at: usize) -> OpRead {
-    let Byte::Is { value, next } = byte_word(input, at, b':') else {
-        return OpRead::Nothing;
-    };
-    OpRead::Is(Op::SetNext(value), next)
+fn get_set_next(input: &Input, at: usize) -> OpWord {
+    let address = byte_word(input, at, b':');
+    OpWord {
+        op: Op::SetNext(address.value),
+        next: address.next,
+    }
 }
 
-fn get_remove(input: &Input, at: usize) -> OpRead {
-    let Byte::Is { value, next } = byte_word(input, at, b':') else {
-        return OpRead::Nothing;
-    };
-    OpRead::Is(Op::Remove(value), next)
+fn get_remove(input: &Input, at: usize) -> OpWord {
+    let address = byte_word(input, at, b':');
+    OpWord {
+        op: Op::Remove(address.value),
+        next: address.next,
+    }
 }
 
-fn get_op(input: &Input, at: usize) -> OpRead {
-    let Place::At(letter) = behind(input, at, b' ') else {
-        return OpRead::Nothing;
-    };
-    if let Place::At(colon) = behind(input, letter, b'w') {
-        return get_witness(input, colon);
+fn get_claim(input: &Input, at: usize) -> OpWord {
+    let end = behind(input, at, b'c');
+    OpWord {
+        op: Op::Claim,
+        next: ended(input, end),
     }
-    if let Place::At(colon) = behind(input, letter, b's') {
-        return get_set_next(input, colon);
+}
+
+fn get_op(input: &Input, at: usize) -> OpWord {
+    let letter = behind(input, at, b' ');
+    let witness = behind(input, letter, b'w');
+    if witness < NOWHERE {
+        return get_witness(input, witness);
     }
-    if let Place::At(colon) = behind(input, letter, b'r') {
-        return get_remove(input, colon);
+    let set_next = behind(input, letter, b's');
+    if set_next < NOWHERE {
+        return get_set_next(input, set_next);
     }
-    if let Place::At(next) = behind_last(input, letter, b'c') {
-        return OpRead::Is(Op::Claim, next);
+    let remove = behind(input, letter, b'r');
+    if remove < NOWHERE {
+        return get_remove(input, remove);
     }
-    OpRead::Nothing
+    get_claim(input, letter)
 }
 
 // Whether all that is left of the line is ops. It is asked first, so that a bad line is answered by `error` alone. An op always ends behind
-// its start; the test of it, here and in `put_ops`, is what shows that the loop ends.
+// its start, and none at `NOWHERE`; the test of it, here and in `put_ops`, is what shows that the loop ends.
 fn are_ops(input: &Input, from: usize) -> bool {
     let mut at = from;
     while !is_end(input, at) {
-        let OpRead::Is(_, next) = get_op(input, at) else {
-            return false;
-        };
-        if next <= at {
+        let word = get_op(input, at);
+        if word.next <= at {
             return false;
         }
-        at = next;
+        at = word.next;
     }
     true
 }
@@ -155,6 +156,14 @@ fn put_state(out: &mut Out, to: usize, ring: TokenRing) -> usize {
     put_active(out, active_at, ring)
 }
 
+// A list, whole or only whether it is ready for the ring.
+fn put_list(out: &mut Out, to: usize, ring: TokenRing, is_whole: bool) -> usize {
+    if is_whole {
+        return put_state(out, to, ring);
+    }
+    put_bool(out, to, ring.ready_for_ring())
+}
+
 fn put_answer(out: &mut Out, to: usize, answer: Answer) -> usize {
     match answer {
         Answer::Done => to,
@@ -165,53 +174,71 @@ fn put_answer(out: &mut Out, to: usize, answer: Answer) -> usize {
     }
 }
 
-fn put_changed(out: &mut Out, to: usize, changed: Changed) -> usize {
+fn put_changed(out: &mut Out, to: usize, changed: Changed, is_whole: bool) -> usize {
     let answer = changed.answer;
     let ring = changed.ring;
     let room = flushed(out, to);
     let answer_at = put_bar(out, room);
     let state_at = put_answer(out, answer_at, answer);
-    put_state(out, state_at, ring)
+    put_list(out, state_at, ring, is_whole)
 }
 
-fn put_ops(input: &Input, from: usize, made: TokenRing, out: &mut Out, to: usize) -> usize {
+fn put_ops(
+    input: &Input,
+    from: usize,
+    made: TokenRing,
+    is_whole: bool,
+    out: &mut Out,
+    to: usize,
+) -> usize {
     let mut ring = made;
     let mut at = from;
     let mut end = to;
     while !is_end(input, at) {
-        let OpRead::Is(op, next) = get_op(input, at) else {
-            return end;
-        };
-        if next <= at {
+        let word = get_op(input, at);
+        if word.next <= at {
             return end;
         }
+        let op = word.op;
         let changed = applied(ring, op);
-        end = put_changed(out, end, changed);
+        end = put_changed(out, end, changed, is_whole);
         ring = changed.ring;
-        at = next;
+        at = word.next;
     }
     end
 }
 
 // The list made, and then the ops.
-fn put_made(input: &Input, at: usize, made: Changed, out: &mut Out, to: usize) -> usize {
+fn put_made(
+    input: &Input,
+    at: usize,
+    made: Changed,
+    is_whole: bool,
+    out: &mut Out,
+    to: usize,
+) -> usize {
     let answer = made.answer;
     let list = made.ring;
     match answer {
         Answer::Done => {
-            let end = put_state(out, to, list);
-            put_ops(input, at, list, out, end)
+            let end = put_list(out, to, list, is_whole);
+            put_ops(input, at, list, is_whole, out, end)
         }
         Answer::Refused(refusal) => put_refusal(out, to, refusal.number()),
     }
 }
 
-pub(crate) fn ring(input: &Input, at: usize, out: &mut Out, to: usize) -> usize {
-    let Byte::Is { value: own, next } = get_byte(input, at) else {
-        return put_error(out, to);
-    };
-    if !are_ops(input, next) {
+pub(crate) fn ring(input: &Input, at: usize, is_whole: bool, out: &mut Out, to: usize) -> usize {
+    let own = get_byte(input, at);
+    if !are_ops(input, own.next) {
         return put_error(out, to);
     }
-    put_made(input, next, TokenRing::new(Address(own)), out, to)
+    put_made(
+        input,
+        own.next,
+        TokenRing::new(Address(own.value)),
+        is_whole,
+        out,
+        to,
+    )
 }

@@ -1,7 +1,8 @@
-// `diag HEX`, `step STORE LEN CURSOR`, `store ROOM DATA…`
+// `diag HEX`, `step STORE LEN CURSOR`, `raw STORE LEN`, `store ROOM DATA…`
 use crate::answers::Out;
 use crate::answers::flushed;
 use crate::answers::put_bar;
+use crate::answers::put_bool;
 use crate::answers::put_error;
 use crate::answers::put_name;
 use crate::answers::put_next_hex;
@@ -11,11 +12,8 @@ use crate::answers::put_refusal;
 use crate::answers::put_text;
 use crate::blocks::put_block;
 use crate::words::Bytes;
-use crate::words::Hex;
 use crate::words::Input;
-use crate::words::Last;
 use crate::words::get_hex;
-use crate::words::get_last_number;
 use crate::words::get_number;
 use crate::words::get_room;
 use crate::words::is_end;
@@ -27,7 +25,6 @@ use diagnostics::ExtendedDiagnostics;
 use diagnostics::Filled;
 use diagnostics::Found;
 use diagnostics::Step;
-use text::Number;
 
 // Whether a walk goes on behind what it found.
 fn is_block(found: Found) -> bool {
@@ -118,49 +115,22 @@ pub(crate) fn put_diag(out: &mut Out, to: usize, store: &[u8]) -> usize {
     put_walk(out, to, diag, store)
 }
 
-// What `step` is given: the store's length, LEN and CURSOR.
-enum StepRead {
-    Is {
-        len: usize,
-        length: usize,
-        cursor: usize,
-    },
-    Nothing,
-}
-
-fn get_step(input: &Input, at: usize, bytes: &mut Bytes) -> StepRead {
-    let Hex::Is { len, next: len_at } = get_hex(input, at, bytes) else {
-        return StepRead::Nothing;
-    };
-    let Number::Is {
-        value: length,
-        next: cursor_at,
-    } = get_number(input, len_at)
-    else {
-        return StepRead::Nothing;
-    };
-    let Last::Is(cursor) = get_last_number(input, cursor_at) else {
-        return StepRead::Nothing;
-    };
-    StepRead::Is {
-        len,
-        length,
-        cursor,
-    }
-}
-
 // `step STORE LEN CURSOR`
 pub(crate) fn step(input: &Input, at: usize, out: &mut Out, to: usize) -> usize {
     let mut bytes = [0u8; 4200];
-    let StepRead::Is {
-        len,
-        length,
-        cursor,
-    } = get_step(input, at, &mut bytes)
-    else {
+    let store = get_hex(input, at, &mut bytes);
+    let length = get_number(input, store.next);
+    let cursor = get_number(input, length.next);
+    if !is_end(input, cursor.next) {
         return put_error(out, to);
-    };
-    put_one(out, to, shown(&bytes, len), length, cursor)
+    }
+    put_one(
+        out,
+        to,
+        shown(&bytes, store.value),
+        length.value,
+        cursor.value,
+    )
 }
 
 fn put_one(out: &mut Out, to: usize, store: &[u8], length: usize, cursor: usize) -> usize {
@@ -169,18 +139,38 @@ fn put_one(out: &mut Out, to: usize, store: &[u8], length: usize, cursor: usize)
     put_step(out, to, iter.next(diag, store), diag, store)
 }
 
+// `raw STORE LEN`
+pub(crate) fn raw(input: &Input, at: usize, out: &mut Out, to: usize) -> usize {
+    let mut bytes = [0u8; 4200];
+    let store = get_hex(input, at, &mut bytes);
+    let length = get_number(input, store.next);
+    if !is_end(input, length.next) {
+        return put_error(out, to);
+    }
+    put_raw(out, to, shown(&bytes, store.value), length.value)
+}
+
+// What is collected in a store, and what is left when it is taken back.
+fn put_raw(out: &mut Out, to: usize, store: &[u8], length: usize) -> usize {
+    let diag = ExtendedDiagnostics { length };
+    let taken = diag.take_buffer();
+    let raw_at = put_bool(out, to, diag.is_available(store));
+    let at = put_next_hex(out, raw_at, diag.raw_diag_buffer(store));
+    let left_at = put_bar(out, at);
+    let store_at = put_number(out, left_at, taken.length);
+    put_next_hex(out, store_at, store)
+}
+
 // Whether all that is left of the line is byte strings. It is asked first, so that a bad line is answered by `error` alone. A word always ends
-// behind its start; the test of it, here and in `put_fillings`, is what shows that the loop ends.
+// behind its start, and none at `NOWHERE`; the test of it, here and in `put_fillings`, is what shows that the loop ends.
 fn are_byte_strings(input: &Input, from: usize, bytes: &mut Bytes) -> bool {
     let mut at = from;
     while !is_end(input, at) {
-        let Hex::Is { len: _, next } = get_hex(input, at, bytes) else {
-            return false;
-        };
-        if next <= at {
+        let word = get_hex(input, at, bytes);
+        if word.next <= at {
             return false;
         }
-        at = next;
+        at = word.next;
     }
     true
 }
@@ -206,30 +196,26 @@ fn put_fillings(
     let mut at = from;
     let mut end = to;
     while !is_end(input, at) {
-        let Hex::Is { len, next } = get_hex(input, at, bytes) else {
-            return end;
-        };
-        if next <= at {
+        let word = get_hex(input, at, bytes);
+        if word.next <= at {
             return end;
         }
-        let filled = diag.fill(store, shown(bytes, len));
+        let filled = diag.fill(store, shown(bytes, word.value));
         end = put_filled(out, end, filled, store);
         diag = filled.diag;
-        at = next;
+        at = word.next;
     }
     put_walk(out, end, diag, store)
 }
 
 // `store ROOM DATA…`
 pub(crate) fn store(input: &Input, at: usize, out: &mut Out, to: usize) -> usize {
-    let Number::Is { value: room, next } = get_room(input, at) else {
-        return put_error(out, to);
-    };
+    let room = get_room(input, at);
     let mut bytes = [0u8; 4200];
-    if !are_byte_strings(input, next, &mut bytes) {
+    if !are_byte_strings(input, room.next, &mut bytes) {
         return put_error(out, to);
     }
-    put_store(input, next, &mut bytes, room, out, to)
+    put_store(input, room.next, &mut bytes, room.value, out, to)
 }
 
 // The store is the first ROOM bytes of a buffer that is as long as a ROOM may be.

@@ -1,5 +1,6 @@
-// The words of a line. A place is where a word ended: at the space before the next one, or at the line feed. The input and the byte
-// strings are lent as whole arrays and not as slices, since a lent array asks no proof of its length.
+// The words of a line. A place is where a word ended: at the space before the next one, or at the line feed. A word that cannot be read
+// ends at `NOWHERE`, and so does each word behind it: a command reads all its words and asks once, at the last one, whether the line ends
+// there. The input and the byte strings are lent as whole arrays and not as slices, since a lent array asks no proof of its length.
 use codes::Part;
 use text::Number;
 ghost use Prim.Native.Nat.{_<_, _≤_};
@@ -9,6 +10,9 @@ ghost use lib.ListN.{length};
 pub(crate) type Input = [u8; 1048577];
 
 pub(crate) const INPUT: usize = 1048576;
+
+// Beyond the input's end, where nothing can be read.
+pub(crate) const NOWHERE: usize = 1048577;
 
 // The longest byte string.
 pub(crate) type Bytes = [u8; 4200];
@@ -23,34 +27,16 @@ const ROOM: usize = 1024;
 // The largest number that is read; each place of a command then asks for less.
 const LARGEST: u32 = 4294967295;
 
-pub(crate) enum Place {
-    At(usize),
-    Nothing,
+// A number, or the length of a byte string, with the place behind it.
+pub(crate) struct Word {
+    pub(crate) value: usize,
+    pub(crate) next: usize,
 }
 
-// A byte in decimal that was read, with the place behind it.
-pub(crate) enum Byte {
-    Is { value: u8, next: usize },
-    Nothing,
-}
-
-// A byte or `-`.
-pub(crate) enum OptionalByte {
-    Is { value: u8, next: usize },
-    Absent { next: usize },
-    Nothing,
-}
-
-// A byte string in hexadecimal that was read: its length, and the place behind it.
-pub(crate) enum Hex {
-    Is { len: usize, next: usize },
-    Nothing,
-}
-
-// A word that is the last of its line: a number, or a byte string's length.
-pub(crate) enum Last {
-    Is(usize),
-    Nothing,
+// A byte in decimal, with the place behind it.
+pub(crate) struct ByteWord {
+    pub(crate) value: u8,
+    pub(crate) next: usize,
 }
 
 // A word of a list of names: its number there, and the place behind it.
@@ -150,109 +136,83 @@ fn named_at(number: usize, at: usize, len: usize) -> Named {
 }
 
 // The place behind a mark of one byte.
-pub(crate) fn behind(input: &Input, at: usize, mark: u8) -> Place {
+pub(crate) fn behind(input: &Input, at: usize, mark: u8) -> usize {
     if INPUT < at {
-        return Place::Nothing;
+        return NOWHERE;
     }
     if input[at] == mark {
-        Place::At(at + 1)
-    } else {
-        Place::Nothing
+        return at + 1;
     }
+    NOWHERE
 }
 
-// The place behind a mark that ends its word.
-pub(crate) fn behind_last(input: &Input, at: usize, mark: u8) -> Place {
-    let Place::At(next) = behind(input, at, mark) else {
-        return Place::Nothing;
-    };
-    if ends_word(input, next) {
-        Place::At(next)
-    } else {
-        Place::Nothing
+// A place, if a word ends there.
+pub(crate) fn ended(input: &Input, at: usize) -> usize {
+    if ends_word(input, at) {
+        return at;
+    }
+    NOWHERE
+}
+
+fn no_word() -> Word {
+    Word {
+        value: 0,
+        next: NOWHERE,
     }
 }
 
 // The number behind a mark.
-fn number_behind(input: &Input, at: usize, mark: u8) -> Number {
-    let Place::At(digits) = behind(input, at, mark) else {
-        return Number::Nothing;
+fn number_behind(input: &Input, at: usize, mark: u8) -> Word {
+    let digits = behind(input, at, mark);
+    let Number::Is { value, next } = text::get_decimal(input, digits, LARGEST) else {
+        return no_word();
     };
-    text::get_decimal(input, digits, LARGEST)
+    Word { value, next }
 }
 
 // The byte behind a mark.
-pub(crate) fn byte_behind(input: &Input, at: usize, mark: u8) -> Byte {
-    let Number::Is { value, next } = number_behind(input, at, mark) else {
-        return Byte::Nothing;
-    };
+pub(crate) fn byte_behind(input: &Input, at: usize, mark: u8) -> ByteWord {
+    let word = number_behind(input, at, mark);
+    let value = word.value;
     if 255 < value {
-        return Byte::Nothing;
+        return ByteWord {
+            value: 0,
+            next: NOWHERE,
+        };
     }
-    Byte::Is {
+    ByteWord {
         value: value as u8,
-        next,
+        next: word.next,
     }
 }
 
 // The byte behind a mark, where it ends its word.
-pub(crate) fn byte_word(input: &Input, at: usize, mark: u8) -> Byte {
-    let Byte::Is { value, next } = byte_behind(input, at, mark) else {
-        return Byte::Nothing;
-    };
-    if ends_word(input, next) {
-        Byte::Is { value, next }
-    } else {
-        Byte::Nothing
+pub(crate) fn byte_word(input: &Input, at: usize, mark: u8) -> ByteWord {
+    let byte = byte_behind(input, at, mark);
+    ByteWord {
+        value: byte.value,
+        next: ended(input, byte.next),
     }
 }
 
-pub(crate) fn get_byte(input: &Input, at: usize) -> Byte {
+pub(crate) fn get_byte(input: &Input, at: usize) -> ByteWord {
     byte_word(input, at, b' ')
 }
 
-pub(crate) fn get_number(input: &Input, at: usize) -> Number {
-    let Number::Is { value, next } = number_behind(input, at, b' ') else {
-        return Number::Nothing;
-    };
-    if ends_word(input, next) {
-        Number::Is { value, next }
-    } else {
-        Number::Nothing
+pub(crate) fn get_number(input: &Input, at: usize) -> Word {
+    let word = number_behind(input, at, b' ');
+    Word {
+        value: word.value,
+        next: ended(input, word.next),
     }
 }
 
-pub(crate) fn get_last_number(input: &Input, at: usize) -> Last {
-    let Number::Is { value, next } = get_number(input, at) else {
-        return Last::Nothing;
-    };
-    if_last(input, value, next)
-}
-
-fn if_last(input: &Input, value: usize, next: usize) -> Last {
-    if is_end(input, next) {
-        Last::Is(value)
-    } else {
-        Last::Nothing
+pub(crate) fn get_room(input: &Input, at: usize) -> Word {
+    let word = get_number(input, at);
+    if ROOM < word.value {
+        return no_word();
     }
-}
-
-pub(crate) fn get_room(input: &Input, at: usize) -> Number {
-    let Number::Is { value, next } = get_number(input, at) else {
-        return Number::Nothing;
-    };
-    if ROOM < value {
-        return Number::Nothing;
-    }
-    Number::Is { value, next }
-}
-
-// A ROOM that is the last word of its line.
-pub(crate) fn get_last_room(input: &Input, at: usize) -> Last {
-    let Number::Is { value, next } = get_room(input, at) else {
-        return Last::Nothing;
-    };
-    if_last(input, value, next)
+    word
 }
 
 // How many bytes are lent: a ROOM that was read is never above the largest.
@@ -263,21 +223,10 @@ pub(crate) fn lent(room: usize) -> usize
 }
 
 // The place behind the word `-`.
-fn behind_dash(input: &Input, at: usize) -> Place {
-    let Place::At(dash) = behind(input, at, b' ') else {
-        return Place::Nothing;
-    };
-    behind_last(input, dash, b'-')
-}
-
-pub(crate) fn get_optional_byte(input: &Input, at: usize) -> OptionalByte {
-    if let Place::At(next) = behind_dash(input, at) {
-        return OptionalByte::Absent { next };
-    }
-    let Byte::Is { value, next } = get_byte(input, at) else {
-        return OptionalByte::Nothing;
-    };
-    OptionalByte::Is { value, next }
+pub(crate) fn behind_dash(input: &Input, at: usize) -> usize {
+    let dash = behind(input, at, b' ');
+    let end = behind(input, dash, b'-');
+    ended(input, end)
 }
 
 // The value of a hexadecimal digit, 16 where it is none.
@@ -311,40 +260,38 @@ fn pair_of(first: u8, second: u8) -> Pair {
 }
 
 // Puts the bytes of the digits at a place, up to the word's end, to the front of the buffer.
-fn decode(input: &Input, from: usize, bytes: &mut Bytes) -> Hex {
+fn decode(input: &Input, from: usize, bytes: &mut Bytes) -> Word {
     let mut at = from;
     let mut len = 0;
     while len < BYTES {
         if INPUT <= at {
-            return Hex::Nothing;
+            return no_word();
         }
         let Pair::Is(b) = pair_of(input[at], input[at + 1]) else {
-            return Hex::Nothing;
+            return no_word();
         };
         bytes[len] = b;
         len += 1;
         at += 2;
         if ends_word(input, at) {
-            return Hex::Is { len, next: at };
+            return Word {
+                value: len,
+                next: at,
+            };
         }
     }
-    Hex::Nothing
+    no_word()
 }
 
 // A byte string goes to the front of the buffer. One that does not fit it cannot be read.
-pub(crate) fn get_hex(input: &Input, at: usize, bytes: &mut Bytes) -> Hex {
-    if let Place::At(next) = behind_dash(input, at) {
-        return Hex::Is { len: 0, next };
+pub(crate) fn get_hex(input: &Input, at: usize, bytes: &mut Bytes) -> Word {
+    let dash = behind_dash(input, at);
+    if dash < NOWHERE {
+        return Word {
+            value: 0,
+            next: dash,
+        };
     }
-    let Place::At(digits) = behind(input, at, b' ') else {
-        return Hex::Nothing;
-    };
+    let digits = behind(input, at, b' ');
     decode(input, digits, bytes)
-}
-
-pub(crate) fn get_last_hex(input: &Input, at: usize, bytes: &mut Bytes) -> Last {
-    let Hex::Is { len, next } = get_hex(input, at, bytes) else {
-        return Last::Nothing;
-    };
-    if_last(input, len, next)
 }

@@ -1,4 +1,4 @@
-// `write DA SA DSAP SSAP FC PDU ROOM`, `wtoken DA SA ROOM`, `wack ROOM`
+// `write DA SA DSAP SSAP FC PDU ROOM`, `wtoken DA SA ROOM`, `wack ROOM`, `wstatus DA SA ROOM`, `wstate DA SA STATE STATUS ROOM`
 use crate::answers::Out;
 use crate::answers::put_byte_number;
 use crate::answers::put_char;
@@ -7,22 +7,23 @@ use crate::answers::put_next_hex;
 use crate::answers::put_next_number;
 use crate::answers::put_refused;
 use crate::answers::put_text;
-use crate::words::Byte;
-use crate::words::Bytes;
-use crate::words::Hex;
 use crate::words::Input;
-use crate::words::Last;
-use crate::words::OptionalByte;
+use crate::words::NOWHERE;
+use crate::words::behind_dash;
 use crate::words::get_byte;
 use crate::words::get_hex;
-use crate::words::get_last_room;
-use crate::words::get_optional_byte;
+use crate::words::get_room;
+use crate::words::is_end;
 use crate::words::lent;
 use crate::words::shown;
 use crate::words::shown_room;
 use codes::Address;
 use codes::FunctionCode;
 use codes::FunctionCodeFound;
+use codes::ResponseState;
+use codes::ResponseStateFound;
+use codes::ResponseStatus;
+use codes::ResponseStatusFound;
 use codes::Sap;
 use telegram::AddressOption;
 use telegram::DataTelegramHeader;
@@ -30,38 +31,33 @@ use telegram::SapOption;
 use telegram_tx::TelegramTxResponse;
 use telegram_tx::TelegramTxResult;
 use telegram_tx::send_data_telegram;
+use telegram_tx::send_fdl_status_request;
+use telegram_tx::send_fdl_status_response;
 use telegram_tx::send_short_confirmation;
 use telegram_tx::send_token_telegram;
 
-// The header's fields that `write` is given.
+// The header's fields that `write` is given, and the place behind them.
 struct Fields {
     da: u8,
     sa: u8,
     dsap: SapOption,
     ssap: SapOption,
     fc: u8,
+    next: usize,
 }
 
-// Two bytes, and the place behind them.
-enum TwoBytes {
-    Are { first: u8, second: u8, next: usize },
-    Nothing,
+// A SAP or `-`, and the place behind it.
+struct SapWord {
+    sap: SapOption,
+    next: usize,
 }
 
-enum SapRead {
-    Is(SapOption, usize),
-    Nothing,
-}
-
-enum FieldsRead {
-    Are(Fields, usize),
-    Nothing,
-}
-
-// What `write` is given: the fields, the PDU's length and the ROOM.
-enum WriteRead {
-    Is(Fields, usize, usize),
-    Nothing,
+// Two bytes and a ROOM, and the place behind them.
+struct Pair {
+    first: u8,
+    second: u8,
+    room: usize,
+    next: usize,
 }
 
 // What a command sends.
@@ -69,90 +65,73 @@ enum Sending {
     Data(DataTelegramHeader),
     Token(u8, u8),
     ShortConfirmation,
+    StatusRequest(u8, u8),
+    StatusResponse(u8, u8, ResponseState, ResponseStatus),
 }
 
-fn get_bytes(input: &Input, at: usize) -> TwoBytes {
-    let Byte::Is {
-        value: first,
-        next: second_at,
-    } = get_byte(input, at)
-    else {
-        return TwoBytes::Nothing;
-    };
-    let Byte::Is {
-        value: second,
-        next,
-    } = get_byte(input, second_at)
-    else {
-        return TwoBytes::Nothing;
-    };
-    TwoBytes::Are {
-        first,
-        second,
-        next,
+fn get_pair(input: &Input, at: usize) -> Pair {
+    let first = get_byte(input, at);
+    let second = get_byte(input, first.next);
+    let room = get_room(input, second.next);
+    Pair {
+        first: first.value,
+        second: second.value,
+        room: room.value,
+        next: room.next,
     }
 }
 
-fn get_sap(input: &Input, at: usize) -> SapRead {
-    match get_optional_byte(input, at) {
-        OptionalByte::Is { value, next } => SapRead::Is(SapOption::Some(Sap(value)), next),
-        OptionalByte::Absent { next } => SapRead::Is(SapOption::None, next),
-        OptionalByte::Nothing => SapRead::Nothing,
+fn get_sap(input: &Input, at: usize) -> SapWord {
+    let dash = behind_dash(input, at);
+    if dash < NOWHERE {
+        return SapWord {
+            sap: SapOption::None,
+            next: dash,
+        };
+    }
+    let byte = get_byte(input, at);
+    SapWord {
+        sap: SapOption::Some(Sap(byte.value)),
+        next: byte.next,
     }
 }
 
-fn get_fields(input: &Input, at: usize) -> FieldsRead {
-    let TwoBytes::Are {
-        first: da,
-        second: sa,
-        next: dsap_at,
-    } = get_bytes(input, at)
-    else {
-        return FieldsRead::Nothing;
-    };
-    let SapRead::Is(dsap, ssap_at) = get_sap(input, dsap_at) else {
-        return FieldsRead::Nothing;
-    };
-    let SapRead::Is(ssap, fc_at) = get_sap(input, ssap_at) else {
-        return FieldsRead::Nothing;
-    };
-    let Byte::Is { value: fc, next } = get_byte(input, fc_at) else {
-        return FieldsRead::Nothing;
-    };
-    let fields = Fields {
-        da,
-        sa,
+fn get_fields(input: &Input, at: usize) -> Fields {
+    let da = get_byte(input, at);
+    let sa = get_byte(input, da.next);
+    let dsap_word = get_sap(input, sa.next);
+    let ssap_word = get_sap(input, dsap_word.next);
+    let fc = get_byte(input, ssap_word.next);
+    let dsap = dsap_word.sap;
+    let ssap = ssap_word.sap;
+    Fields {
+        da: da.value,
+        sa: sa.value,
         dsap,
         ssap,
-        fc,
-    };
-    FieldsRead::Are(fields, next)
-}
-
-fn get_write(input: &Input, at: usize, pdu: &mut Bytes) -> WriteRead {
-    let FieldsRead::Are(fields, pdu_at) = get_fields(input, at) else {
-        return WriteRead::Nothing;
-    };
-    let Hex::Is { len, next } = get_hex(input, pdu_at, pdu) else {
-        return WriteRead::Nothing;
-    };
-    let Last::Is(room) = get_last_room(input, next) else {
-        return WriteRead::Nothing;
-    };
-    WriteRead::Is(fields, len, room)
+        fc: fc.value,
+        next: fc.next,
+    }
 }
 
 // `write DA SA DSAP SSAP FC PDU ROOM`
 pub(crate) fn write(input: &Input, at: usize, out: &mut Out, to: usize) -> usize {
     let mut pdu = [0u8; 4200];
-    let WriteRead::Is(fields, len, room) = get_write(input, at, &mut pdu) else {
+    let fields = get_fields(input, at);
+    let word = get_hex(input, fields.next, &mut pdu);
+    let room = get_room(input, word.next);
+    if !is_end(input, room.next) {
         return put_error(out, to);
-    };
+    }
+    put_data(out, to, fields, shown(&pdu, word.value), room.value)
+}
+
+fn put_data(out: &mut Out, to: usize, fields: Fields, pdu: &[u8], room: usize) -> usize {
     let FunctionCodeFound::Is(code) = FunctionCode::from_byte(fields.fc) else {
         return put_text(out, to, b"badfc");
     };
     let sending = Sending::Data(header_of(fields, code));
-    put_sending(out, to, sending, shown(&pdu, len), room)
+    put_sending(out, to, sending, pdu, room)
 }
 
 fn header_of(fields: Fields, fc: FunctionCode) -> DataTelegramHeader {
@@ -167,28 +146,83 @@ fn header_of(fields: Fields, fc: FunctionCode) -> DataTelegramHeader {
     }
 }
 
+// What has no PDU is sent where the line ends behind the ROOM.
+fn put_short(
+    input: &Input,
+    next: usize,
+    sending: Sending,
+    room: usize,
+    out: &mut Out,
+    to: usize,
+) -> usize {
+    if !is_end(input, next) {
+        return put_error(out, to);
+    }
+    put_sending(out, to, sending, b"", room)
+}
+
 // `wtoken DA SA ROOM`
 pub(crate) fn wtoken(input: &Input, at: usize, out: &mut Out, to: usize) -> usize {
-    let TwoBytes::Are {
-        first: da,
-        second: sa,
-        next,
-    } = get_bytes(input, at)
-    else {
-        return put_error(out, to);
-    };
-    let Last::Is(room) = get_last_room(input, next) else {
-        return put_error(out, to);
-    };
-    put_sending(out, to, Sending::Token(da, sa), b"", room)
+    let pair = get_pair(input, at);
+    let sending = Sending::Token(pair.first, pair.second);
+    put_short(input, pair.next, sending, pair.room, out, to)
+}
+
+// `wstatus DA SA ROOM`
+pub(crate) fn wstatus(input: &Input, at: usize, out: &mut Out, to: usize) -> usize {
+    let pair = get_pair(input, at);
+    let sending = Sending::StatusRequest(pair.first, pair.second);
+    put_short(input, pair.next, sending, pair.room, out, to)
 }
 
 // `wack ROOM`
 pub(crate) fn wack(input: &Input, at: usize, out: &mut Out, to: usize) -> usize {
-    let Last::Is(room) = get_last_room(input, at) else {
+    let room = get_room(input, at);
+    put_short(
+        input,
+        room.next,
+        Sending::ShortConfirmation,
+        room.value,
+        out,
+        to,
+    )
+}
+
+// `wstate DA SA STATE STATUS ROOM`
+pub(crate) fn wstate(input: &Input, at: usize, out: &mut Out, to: usize) -> usize {
+    let da = get_byte(input, at);
+    let sa = get_byte(input, da.next);
+    let pair = get_pair(input, sa.next);
+    if !is_end(input, pair.next) {
         return put_error(out, to);
+    }
+    let state = ResponseState::from_u8(pair.first);
+    let status = ResponseStatus::from_u8(pair.second);
+    put_state(out, to, da.value, sa.value, state, status, pair.room)
+}
+
+fn put_state(
+    out: &mut Out,
+    to: usize,
+    da: u8,
+    sa: u8,
+    state: ResponseStateFound,
+    status: ResponseStatusFound,
+    room: usize,
+) -> usize {
+    let ResponseStateFound::Is(named) = state else {
+        return put_text(out, to, b"badfc");
     };
-    put_sending(out, to, Sending::ShortConfirmation, b"", room)
+    let ResponseStatusFound::Is(answered) = status else {
+        return put_text(out, to, b"badfc");
+    };
+    put_sending(
+        out,
+        to,
+        Sending::StatusResponse(da, sa, named, answered),
+        b"",
+        room,
+    )
 }
 
 fn send(sending: Sending, pdu: &[u8], buffer: &mut [u8]) -> TelegramTxResult {
@@ -196,6 +230,10 @@ fn send(sending: Sending, pdu: &[u8], buffer: &mut [u8]) -> TelegramTxResult {
         Sending::Data(header) => send_data_telegram(header, pdu, buffer),
         Sending::Token(da, sa) => send_token_telegram(Address(da), Address(sa), buffer),
         Sending::ShortConfirmation => send_short_confirmation(buffer),
+        Sending::StatusRequest(da, sa) => send_fdl_status_request(Address(da), Address(sa), buffer),
+        Sending::StatusResponse(da, sa, state, status) => {
+            send_fdl_status_response(Address(da), Address(sa), state, status, buffer)
+        }
     }
 }
 

@@ -5,10 +5,10 @@ use Rattle.bench.proofs.stations.put_ops.Statement.{statement}
 use Rattle.bench.proofs.stations.put_ops.Tie as tie
 
 abbrev Inv-loop : tie.InvT-loop
-Inv-loop input from out₀ to ring₀ at₀ end₀ out ring at end = Unit {0}
+Inv-loop input from whole out₀ to ring₀ at₀ end₀ out ring at end = Unit {0}
 
 abbrev μ-loop : tie.MeasureT-loop
-μ-loop input from out₀ to ring₀ at₀ end₀ out ring at end = 18446744073709551616 - at
+μ-loop input from whole out₀ to ring₀ at₀ end₀ out ring at end = 18446744073709551616 - at
 
 pub put-ops-spec : {M : Type 1} → statement M
 put-ops-spec =
@@ -19,9 +19,6 @@ put-ops-spec =
     (λ c. search needs)
     (λ c κs. search needs)
     (λ c κs. search needs)
-    (λ c. search needs)
-    (λ c. search needs)
-    (λ c. search needs)
     (λ c. search needs)
     (λ c κs. search needs)
     (λ c κs. search needs)

@@ -55,10 +55,10 @@ static uint8_t initiator_hears(void)
     return koy_initiator_hear(initiator, line, line_len, out, sizeof out, told);
 }
 
-/* the cabinet hears an order and answers it with one byte more than it got */
+/* the cabinet hears an order and answers it with one byte more than it got; to an order of 246 bytes that would be refused, 9 */
 static void carry_out(void)
 {
-    uint8_t reply[246];
+    uint8_t reply[246 + 1];
     want("responder", responder_hears(), KOY_HANDED_UP);
     size_t len = told[1];
     memcpy(reply, line + told[0], len);

@@ -2,8 +2,8 @@
  *
  * Link with libexports.a (rt staticlib exports), and where a call of the order link is used, koy_initiator_... or
  * koy_responder_..., with libexports_link.a too (rt staticlib exports_link); neither needs the other. They allocate nothing, keep
- * no state of their own, call nothing but memcpy and memset, and return from every call. Each call is proved to answer every number, every length and every content of
- * the bytes that it is lent as document 01 says.
+ * no state of their own, call nothing but memcpy and memset, and return from every call. Each call is proved to answer every
+ * number, every length and every content of the bytes that it is lent as document 01 says.
  *
  * What the caller owes, as with memcpy: a pointer and a length name bytes that are there; a pointer may be any that is not
  * null where the length is 0; an array has as many elements as its type says; what a call is lent to write to overlaps
@@ -29,7 +29,7 @@ extern "C" {
 /* ---- codes ---- */
 
 #define KOY_DONE 0
-/* refusals of document 01 */
+/* refusals of document 01; no call here gives 15 or 22 */
 #define KOY_UNKNOWN_START 1
 #define KOY_LENGTHS_DIFFER 2
 #define KOY_LENGTH_TOO_SMALL 3

@@ -42,7 +42,7 @@ impl Bus {
         Ok(())
     }
 
-    /// The cabinet hears an order and answers it with one byte more than it got.
+    /// The cabinet hears an order and answers it with one byte more than it got; to an order of 246 bytes that would be refused, 9.
     fn carry_out(&mut self) -> Result<(), Refusal> {
         let ResponderAnswer::HandedUp(order) = self.responder.hear(&self.line, &mut [0; ROOM])? else {
             panic!("no order")

@@ -1,4 +1,5 @@
-//! The functions of libexports.a and libexports_link.a as Rattle exports them. tests/drift.rs holds this file and the C header against the source.
+//! The functions of libexports.a and libexports_link.a as Rattle exports them. tests/drift.rs holds this file and the C header
+//! against the source.
 #![allow(dead_code)]
 
 pub const KOY_DONE: u8 = 0;

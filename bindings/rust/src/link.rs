@@ -120,6 +120,7 @@ pub struct Responder {
     state: [u8; ffi::KOY_RESPONDER_SIZE],
 }
 
+/// What a call of the responder says.
 #[derive(Clone, Debug, PartialEq, Eq)]
 pub enum ResponderAnswer {
     /// A telegram of so many bytes stands at the front of the buffer.

@@ -46,6 +46,7 @@ fn words() -> Option<Words> {
 fn main() {
     let Some(words) = words() else {
         eprintln!("use: soak [--seed N] [--seconds N] [--calls N] [--oracle PATH] [--plant FAULT]");
+        eprintln!("FAULT is one of tries, reply, twice, late, order, notsent, mute");
         exit(2);
     };
     println!("seed {}", words.seed);

@@ -4,8 +4,10 @@
 use Rattle.acceptance.proofs.Outcomes.Codes.{Codes, codes}
 use Rattle.acceptance.proofs.Outcomes.Diagnostics.{Diagnostics, diagnostics}
 use Rattle.acceptance.proofs.Outcomes.Driver.{Driver, driver}
+use Rattle.acceptance.proofs.Outcomes.Exported.{Exported, exported}
 use Rattle.acceptance.proofs.Outcomes.Exports.{Exports, exports}
 use Rattle.acceptance.proofs.Outcomes.Links.{Links, links}
+use Rattle.acceptance.proofs.Outcomes.Stage.{Stage, stage}
 use Rattle.acceptance.proofs.Outcomes.Stations.{Stations, stations}
 use Rattle.acceptance.proofs.Outcomes.Telegrams.{Telegrams, telegrams}
 use Rattle.acceptance.proofs.Outcomes.Texts.{Texts, texts}
@@ -23,10 +25,14 @@ pub record EveryCall : Type 2 where
   pub diagnostics : Diagnostics
   -- `buffers`, `text`, `settings`, `listing`
   pub texts : Texts
-  -- `link_telegrams`, `initiator`, `responder_row`, `responder`
+  -- `link_rules`, `link_telegrams`, `initiator`, `responder_row`, `responder`
   pub links : Links
   -- `exports` and `exports_link`
   pub exports : Exports
+  -- the crates `exported_…`
+  pub exported : Exported
+  -- `stage`
+  pub stage : Stage
 
 pub every-call : EveryCall
 every-call =
@@ -39,4 +45,6 @@ every-call =
       texts = texts;
       links = links;
       exports = exports;
+      exported = exported;
+      stage = stage;
     }

@@ -10,3 +10,5 @@ pub mod Diagnostics
 pub mod Texts
 pub mod Links
 pub mod Exports
+pub mod Exported
+pub mod Stage

@@ -27,7 +27,7 @@ use Rattle.telegram.specs.declared.header.SapOption.{SapOption}
 use Rattle.telegram.specs.declared.header.SapOption.the-variants.{Some, None}
 use Rattle.telegram.specs.declared.kinds.Telegram.the-variants.{Data}
 use Rattle.token_ring.specs.Rules.{made}
-use Rattle.token_ring.specs.Samples.{_to_, after, Told, told}
+use Rattle.token_ring.specs.Passes.{_to_, after, Told, told}
 use Rattle.token_ring.specs.declared.las_state.LasState.{LasState}
 use Rattle.token_ring.specs.declared.las_state.LasState.the-variants.{Discovery, Verification, Valid}
 use Rattle.token_ring.specs.declared.ring.TokenRing.{TokenRing}

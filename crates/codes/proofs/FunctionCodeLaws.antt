@@ -1,14 +1,17 @@
 -- Laws of the function code: what is written is read back; what is read is written back, but for bit 7 of a response;
 -- exactly 120 of the 256 bytes are read.
 -- Assumes nothing.
-use Prim.Native.Nat.{ℕ, zero, suc, _+_, _%_, _<_}
+use Prim.Native.Nat.{ℕ, zero, suc, _+_, _/_, _%_, _<_}
 use mathlib.Core.Path.{_≡_, refl, sym, _∙_, ap}
 use mathlib.Core.Bool.{Bool, true, false}
 use native.Mathlib.Nat.{add-zero, zero-add, add-suc, suc-add, le-of-suc-le-suc, not-suc-le-zero}
 use native.Mathlib.Omega.{arith}
-use lib.Dec.{T, eqb, eqb→eq}
+use lib.Dec.{eqb}
+use borrow.Author.Tests.{eqb-true, eq-eqb, ne-eqb}
 use Rattle.codes.proofs.NumberLaws.{frame-count-part-small, request-number-small, state-number-small, status-number-small}
-use Rattle.codes.specs.FunctionCodes.{bit, codeByte, functionCodeOf, digit}
+use Rattle.codes.proofs.PickLaws.{both-first, both-second}
+use Rattle.codes.specs.FrameCountBits.{frameCountBitOf}
+use Rattle.codes.specs.FunctionCodes.{bit, requestBits, requestOf, responseOf, functionCodeOf, codeByte, keptByte, readFrom}
 use Rattle.codes.specs.Pick.{if}
 use Rattle.codes.specs.RequestTypes.{requestTypeOf}
 use Rattle.codes.specs.Responses.{stateOf, statusOf}
@@ -20,10 +23,13 @@ use Rattle.codes.specs.declared.function_code.FunctionCodeFound.{Functio
 use Rattle.codes.specs.declared.function_code.FunctionCodeFound.the-variants.{Is, Nothing}
 use Rattle.codes.specs.declared.request_type.RequestType.{RequestType}
 use Rattle.codes.specs.declared.request_type.RequestType.the-variants.{ClockValue, TimeEvent, SdaLow, SdnLow, SdaHigh, SdnHigh, MulticastSrd, FdlStatus, SrdLow, SrdHigh, Ident, LsapStatus}
+use Rattle.codes.specs.declared.request_type.RequestTypeFound.{RequestTypeFound}
 use Rattle.codes.specs.declared.response.ResponseState.{ResponseState}
 use Rattle.codes.specs.declared.response.ResponseState.the-variants.{Slave, MasterNotReady, MasterWithoutToken, MasterInRing}
+use Rattle.codes.specs.declared.response.ResponseStateFound.{ResponseStateFound}
 use Rattle.codes.specs.declared.response.ResponseStatus.{ResponseStatus}
 use Rattle.codes.specs.declared.response.ResponseStatus.the-variants.{Ok, UserError, NoResources, SapNotEnabled, DataLow, NoDataReady, DataHigh, NotReceivedDataLow, NotReceivedDataHigh}
+use Rattle.codes.specs.declared.response.ResponseStatusFound.{ResponseStatusFound}
 
 every-bit : (P : FrameCountBit → Type 0) → P First → P High → P Low → P Inactive → (b : FrameCountBit) → P b
 every-bit P a b c d First = a
@@ -37,7 +43,7 @@ every-state P a b c d MasterNotReady = b
 every-state P a b c d MasterWithoutToken = c
 every-state P a b c d MasterInRing = d
 
--- The statement of each law below at one code.
+-- What is written is read back: of one code.
 Again : FunctionCode → Type 0
 Again code = functionCodeOf (codeByte code) ≡ Is code
 
@@ -68,7 +74,7 @@ response-again state DataHigh = every-state (λ s. Again (Response s DataHigh)) 
 response-again state NotReceivedDataLow = every-state (λ s. Again (Response s NotReceivedDataLow)) refl refl refl refl state
 response-again state NotReceivedDataHigh = every-state (λ s. Again (Response s NotReceivedDataHigh)) refl refl refl refl state
 
--- "Writing gives the same byte back": what is written is read back.
+-- What is written is read back.
 pub read-written : (code : FunctionCode) → functionCodeOf (codeByte code) ≡ Is code
 unfolding Again
 read-written (Request fcb req) = request-again fcb req
@@ -77,66 +83,43 @@ read-written (Response state status) = response-again state status
 pub code-byte-injective : (x y : FunctionCode) → codeByte x ≡ codeByte y → x ≡ y
 code-byte-injective x y e = let h : Is x ≡ Is y = sym (read-written x) ∙ ap functionCodeOf e ∙ read-written y in cc
 
--- The byte that writing gives for what was read: the same, "except that a response loses bit 7".
-abbrev pub keptByte : ℕ → ℕ
-keptByte b = if (bit 6 b) b (b % 128)
-
-kept : ℕ → FunctionCodeFound → Bool
-kept b (Is code) = eqb (codeByte code) (keptByte b)
-kept b Nothing = true
-
-isRead : FunctionCodeFound → Bool
-isRead (Is code) = true
-isRead Nothing = false
-
--- A test at each of n numbers from i on, and how many pass it.
+-- A test at each of n numbers from i on, and what it says of one of them.
 allFrom : (ℕ → Bool) → ℕ → ℕ → Bool
 allFrom f i zero = true
 allFrom f i (suc n) = if (f i) (allFrom f (suc i) n) false
 
-pub countFrom : (ℕ → Bool) → ℕ → ℕ → ℕ
-countFrom f i zero = 0
-countFrom f i (suc n) = digit (f i) + countFrom f (suc i) n
-
-first-of : (a : Bool) (rest : Bool) → T (if a rest false) → T a
-first-of true rest t = tt
-first-of false rest t = t
-
-rest-of : (a : Bool) (rest : Bool) → T (if a rest false) → T rest
-rest-of true rest t = t
-rest-of false rest t = absurd t
-
--- A test that was computed over a range holds at each number of it.
-at-each : (f : ℕ → Bool) (i n : ℕ) → T (allFrom f i n) → (k : ℕ) → k < n → T (f (i + k))
+at-each : (f : ℕ → Bool) (i n : ℕ) → allFrom f i n ≡ true → (k : ℕ) → k < n → f (i + k) ≡ true
 unfolding allFrom
 at-each f i zero t k h = absurd (not-suc-le-zero h)
-at-each f i (suc n) t zero h = rw add-zero (first-of (f i) (allFrom f (suc i) n) t)
+at-each f i (suc n) t zero h = rw add-zero (both-first (f i) (allFrom f (suc i) n) t)
 at-each f i (suc n) t (suc k) h =
-    rw (add-suc, ← suc-add) (at-each f (suc i) n (rest-of (f i) (allFrom f (suc i) n) t) k (le-of-suc-le-suc h))
+    rw (add-suc, ← suc-add) (at-each f (suc i) n (both-second (f i) (allFrom f (suc i) n) t) k (le-of-suc-le-suc h))
+
+-- Whether writing what a byte was read as gives the byte that it should: computed at all 256.
+kept : ℕ → FunctionCodeFound → Bool
+kept b (Is code) = eqb (codeByte code) (keptByte b)
+kept b Nothing = true
 
 keptAt : ℕ → Bool
 keptAt b = kept b (functionCodeOf b)
 
-pub readAt : ℕ → Bool
-readAt b = isRead (functionCodeOf b)
-
-all-kept : T (allFrom keptAt 0 256)
+all-kept : allFrom keptAt 0 256 ≡ true
 unfolding allFrom keptAt kept functionCodeOf codeByte requestTypeOf stateOf statusOf
-all-kept = tt
+all-kept = refl
 
-kept-is : (b : ℕ) (code : FunctionCode) (found : FunctionCodeFound) → T (kept b found) → found ≡ Is code → codeByte code ≡ keptByte b
+kept-is : (b : ℕ) (code : FunctionCode) (found : FunctionCodeFound) → kept b found ≡ true → found ≡ Is code → codeByte code ≡ keptByte b
 unfolding kept
-kept-is b code (Is c) t e = let h : c ≡ code = cc in rw h at (eqb→eq (codeByte c) (keptByte b) t)
+kept-is b code (Is c) t e = let h : c ≡ code = cc in rw h at (eqb-true (codeByte c) (keptByte b) t)
 kept-is b code Nothing t e = let z : _≡_ {A = ℕ} 0 1 = cc in absurd (omega arith)
 
--- What is read is written back, but for bit 7 of a response.
+-- "Writing gives the same byte back, except that a response loses bit 7."
 pub written-read : (b : ℕ) → b < 256 → (code : FunctionCode) → functionCodeOf b ≡ Is code → codeByte code ≡ keptByte b
 unfolding keptAt
 written-read b h code e = kept-is b code (functionCodeOf b) (rw zero-add at (at-each keptAt 0 256 all-kept b h)) e
 
 -- "So 120 of 256 bytes are read."
-pub exactly-120-are-read : countFrom readAt 0 256 ≡ 120
-unfolding countFrom readAt isRead functionCodeOf requestTypeOf stateOf statusOf
+pub exactly-120-are-read : readFrom 0 256 ≡ 120
+unfolding readFrom functionCodeOf requestTypeOf stateOf statusOf
 exactly-120-are-read = refl
 
 -- A written function code is a byte.
@@ -144,3 +127,13 @@ pub code-byte-small : (code : FunctionCode) → codeByte code < 256
 unfolding codeByte
 code-byte-small (Request fcb req) = omega (arith, frame-count-part-small fcb, request-number-small req)
 code-byte-small (Response state status) = omega (arith, state-number-small state, status-number-small status)
+
+-- For a reader of a byte. Bit 6 set: it is the request of the type and the frame count bit that were found.
+pub request-read : (b : ℕ) (fcb : FrameCountBit) (found : RequestTypeFound) → b / 64 % 2 ≡ 1 → fcb ≡ frameCountBitOf (bit 4 b) (bit 5 b) → found ≡ requestTypeOf (requestBits b) → requestOf fcb found ≡ functionCodeOf b
+unfolding functionCodeOf
+request-read b fcb found set bits type = rw (eq-eqb _ _ set, bits, type)
+
+-- Bit 6 clear: it is the response of the state and the status that were found.
+pub response-read : (b : ℕ) (state : ResponseStateFound) (status : ResponseStatusFound) → (b / 64 % 2 ≡ 1 → ⊥) → state ≡ stateOf (b / 16 % 4) → status ≡ statusOf (b % 16) → responseOf state status ≡ functionCodeOf b
+unfolding functionCodeOf
+response-read b state status clear e f = rw (ne-eqb _ _ clear, e, f)

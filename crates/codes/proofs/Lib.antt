@@ -2,3 +2,4 @@ pub mod ChecksumLaws
 pub mod FunctionCodeLaws
 pub mod NumberLaws
 pub mod PartLaws
+pub mod PickLaws

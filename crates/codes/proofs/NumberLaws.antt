@@ -4,7 +4,6 @@ use Prim.Native.Nat.{ℕ, _≤_}
 use mathlib.Core.Path.{_≡_, refl, sym, _∙_, ap}
 use mathlib.Core.List.{List, [], _∷_}
 use lib.Dec.{lit≤}
-use Rattle.codes.specs.FrameCountBits.{frameCountBitOf, fcvOf, fcbOf}
 use Rattle.codes.specs.FunctionCodes.{frameCountPart}
 use Rattle.codes.specs.Lookup.{lookup}
 use Rattle.codes.specs.Refusals.{numberOf, shown}
@@ -29,13 +28,6 @@ use Rattle.codes.specs.declared.response.ResponseStatusFound.the-variant
 -- What a number leads back to, no other value has.
 pub injective : {A B : Type 0} (number : A → B) (back : B → A) → ((x : A) → back (number x) ≡ x) → (x y : A) → number x ≡ number y → x ≡ y
 injective number back again x y e = sym (again x) ∙ ap back e ∙ again y
-
--- A frame count bit is the one that its FCV and FCB stand for.
-pub frame-count-bit-again : (b : FrameCountBit) → frameCountBitOf (fcvOf b) (fcbOf b) ≡ b
-frame-count-bit-again First = refl
-frame-count-bit-again High = refl
-frame-count-bit-again Low = refl
-frame-count-bit-again Inactive = refl
 
 pub frame-count-part-small : (b : FrameCountBit) → frameCountPart b ≤ 48
 frame-count-part-small First = lit≤ tt

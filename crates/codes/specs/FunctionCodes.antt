@@ -1,6 +1,6 @@
 -- Document 01, "Function code": the function code's byte, read and written.
 -- Assumes nothing.
-use Prim.Native.Nat.{ℕ, _+_, _*_, _/_, _%_, _^_}
+use Prim.Native.Nat.{ℕ, zero, suc, _+_, _*_, _/_, _%_, _^_}
 use mathlib.Core.Bool.{Bool, true, false}
 use lib.Dec.{eqb}
 use Rattle.codes.specs.FrameCountBits.{frameCountBitOf, fcvOf, fcbOf}
@@ -46,6 +46,7 @@ functionCodeOf b =
     (requestOf (frameCountBitOf (bit 4 b) (bit 5 b)) (requestTypeOf (requestBits b)))
     (responseOf (stateOf (b / 16 % 4)) (statusOf (b % 16)))
 
+-- 1 for a bit that is set
 abbrev pub digit : Bool → ℕ
 digit true = 1
 digit false = 0
@@ -58,3 +59,17 @@ frameCountPart fcb = digit (fcbOf fcb) * 2 ^ 5 + digit (fcvOf fcb) * 2 ^ 4
 unfoldable pub codeByte : FunctionCode → ℕ
 codeByte (Request fcb req) = 2 ^ 6 + frameCountPart fcb + requestNumber req
 codeByte (Response state status) = stateNumber state * 2 ^ 4 + statusNumber status
+
+-- "Writing gives the same byte back, except that a response loses bit 7": the byte that writing gives for what was read
+abbrev pub keptByte : ℕ → ℕ
+keptByte b = if (bit 6 b) b (b % 128)
+
+-- "So 120 of 256 bytes are read": whether a byte is
+abbrev pub isRead : FunctionCodeFound → Bool
+isRead (Is code) = true
+isRead Nothing = false
+
+-- and how many of the n bytes from b on are
+unfoldable pub readFrom : ℕ → ℕ → ℕ
+readFrom b zero = 0
+readFrom b (suc n) = digit (isRead (functionCodeOf b)) + readFrom (suc b) n

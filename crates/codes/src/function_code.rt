@@ -1,5 +1,4 @@
 ghost use mathlib.Core.Path.{_≡_};
-ghost use Rattle.codes.specs.FrameCountBits.{fcbOf, fcvOf};
 ghost use Rattle.codes.specs.FunctionCodes.{codeByte, functionCodeOf, frameCountPart};
 use crate::frame_count_bit::FrameCountBit;
 use crate::request_type::RequestType;

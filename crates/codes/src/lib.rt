@@ -1,4 +1,5 @@
 // The codes of a PROFIBUS telegram: what profirust's consts.rs, its `Address`, and telegram.rs up to `FunctionCode` have.
+// And what every crate above shares: the refusals with their numbers, and a part of a byte string.
 pub mod address;
 pub mod consts;
 pub mod frame_check;

@@ -5,12 +5,12 @@ use mathlib.Core.List.{List}
 use Prim.Native.Nat.{ℕ, _+_, _-_, _/_, _%_, _≤_}
 use native.Mathlib.Decide.{ℕ-discrete}
 use native.Mathlib.Omega.{arith}
-use borrow.Author.Tests.{eq-eqb, ne-eqb}
 use lib.ListN.{length}
 use Rattle.codes.specs.Part.{byteAt}
 use Rattle.diagnostics.specs.Channel.{channelOf}
+use Rattle.diagnostics.specs.Meaning.{BodyOf, BodyWithin, ofDevice, ofIdentifier}
 use Rattle.diagnostics.specs.Walk.{Placed, block, blockAt, channelIs, deviceAt, identifierAt, lengthOf, stepOf}
-use Rattle.diagnostics.proofs.Headers.{length-channel, length-identifier, length-sized}
+use Rattle.diagnostics.proofs.Headers.{block-channel, block-device, block-identifier, length-channel, length-identifier, length-sized}
 use Rattle.diagnostics.proofs.Steps.{StepCase, clash, ended, found, step-case, refusal}
 
 -- the three kinds of a block
@@ -21,25 +21,12 @@ pub data Kind (s : List ℕ) (at header : ℕ) : Type 0 where
 
 module _ (s : List ℕ) (at header : ℕ) where
   kind-by : Dec (header / 64 ≡ 1) → Dec (header / 64 ≡ 2) → Kind s at header
-  unfolding blockAt
-  kind-by (yes one) d = identifierKind one (length-identifier header one) (rw (eq-eqb _ _ one))
-  kind-by (no other) (yes two) = channelKind two (length-channel header two) (rw (ne-eqb _ _ other, eq-eqb _ _ two))
-  kind-by (no other) (no another) = deviceKind other another (length-sized header another) (rw (ne-eqb _ _ other, ne-eqb _ _ another))
+  kind-by (yes one) d = identifierKind one (length-identifier header one) (block-identifier s at header one)
+  kind-by (no other) (yes two) = channelKind two (length-channel header two) (block-channel s at header two)
+  kind-by (no other) (no another) = deviceKind other another (length-sized header another) (block-device s at header other another)
 
   pub kind : Kind s at header
   kind = kind-by (ℕ-discrete _ _) (ℕ-discrete _ _)
-
--- a body begins behind the header, ends where the walk goes on, and lies within what is walked
-pub record BodyWithin (s : List ℕ) (at start size : ℕ) : Type 0 where
-  pub behind : start ≡ at + 1
-  pub upTo : start + size ≡ stepOf s at .cursor
-  pub within : start + size ≤ length s
-  pub short : size ≤ 62
-
--- where a block has its body
-pub data BodyOf : Placed → ℕ → ℕ → Type 0 where
-  ofIdentifier : {start size : ℕ} → BodyOf (identifierAt start size) start size
-  ofDevice : {start size : ℕ} → BodyOf (deviceAt start size) start size
 
 module _ (s : List ℕ) (at header : ℕ) (e : stepOf s at .cursor ≡ at + lengthOf header) (some : 1 ≤ lengthOf header) (fits : at + lengthOf header ≤ length s) where
   -- the low six bits give a body of at most 62 bytes behind the header

@@ -22,6 +22,18 @@ pub length-identifier : (header : ℕ) → header / 64 ≡ 1 → lengthOf header
 length-identifier header h = length-sized header (λ e. omega arith)
 
 module _ (s : List ℕ) (at header : ℕ) where
+  pub block-identifier : header / 64 ≡ 1 → blockAt s at header ≡ identifierAt (at + 1) (header % 64 - 1)
+  unfolding blockAt
+  block-identifier one = rw (eq-eqb _ _ one)
+
+  pub block-channel : header / 64 ≡ 2 → blockAt s at header ≡ channelIs (channelOf header (byteAt s (at + 1)) (byteAt s (at + 2)))
+  unfolding blockAt
+  block-channel two = rw (ne-eqb (header / 64) 1 (λ e. omega arith), eq-eqb _ _ two)
+
+  pub block-device : (header / 64 ≡ 1 → ⊥) → (header / 64 ≡ 2 → ⊥) → blockAt s at header ≡ deviceAt (at + 1) (header % 64 - 1)
+  unfolding blockAt
+  block-device other another = rw (ne-eqb _ _ other, ne-eqb _ _ another)
+
   pub headed-reserved : header / 64 ≡ 3 → headedBy s at header ≡ refusedAt 13 (length s)
   unfolding headedBy
   headed-reserved three = rw (eq-eqb _ _ three)
@@ -54,14 +66,6 @@ module _ (s : List ℕ) (at header : ℕ) where
     pub sized-whole : (header % 64 ≡ 0 → ⊥) → at + header % 64 ≤ length s → headedBy s at header ≡ record { answer = block (blockAt s at header); cursor = at + header % 64 }
     sized-whole some fits = rw sized at (headed-block (λ e. omega arith) (rw sized some) (rw sized fits))
 
-    pub block-device : (header / 64 ≡ 1 → ⊥) → blockAt s at header ≡ deviceAt (at + 1) (header % 64 - 1)
-    unfolding blockAt
-    block-device other = rw (ne-eqb _ _ other, ne-eqb (header / 64) 2 (λ e. omega arith))
-
-  pub block-identifier : header / 64 ≡ 1 → blockAt s at header ≡ identifierAt (at + 1) (header % 64 - 1)
-  unfolding blockAt
-  block-identifier one = rw (eq-eqb _ _ one)
-
   -- a channel block: three bytes
   module _ (kind : header / 64 ≡ 2) where
     three : lengthOf header ≡ 3
@@ -71,5 +75,4 @@ module _ (s : List ℕ) (at header : ℕ) where
     channel-cut cut = headed-cut (λ e. omega arith) (λ e. omega (arith, three)) (rw three cut)
 
     pub channel-whole : at + 3 ≤ length s → headedBy s at header ≡ record { answer = block (channelIs (channelOf header (byteAt s (at + 1)) (byteAt s (at + 2)))); cursor = at + 3 }
-    unfolding blockAt
-    channel-whole fits = rw (three, kind) at (headed-block (λ e. omega arith) (λ e. omega (arith, three)) (rw three fits))
+    channel-whole fits = rw (three, block-channel kind) at (headed-block (λ e. omega arith) (λ e. omega (arith, three)) (rw three fits))

@@ -1,8 +1,8 @@
 pub mod Numbers
 pub mod Bits
 pub mod Headers
-pub mod Parts
 pub mod Steps
+pub mod StoreLaws
 pub mod Bodies
 pub mod RoundTrip
 pub mod Shows

@@ -9,7 +9,8 @@ use lib.Dec.{eqb}
 use lib.ListN.{length, length-append}
 use lib.Seq.{drop-append-add, getD-append-add, getD-append-seam, take-append-seam}
 use Rattle.codes.proofs.PartLaws.{shown-fits}
-use Rattle.diagnostics.specs.Blocks.{AllFitting, Block, ChannelFits, Fitting, RowSays, Says, bit, channel, channelFits, device, deviceFits, firstByte, identifier, identifierFits, itsOwn, noneLeft, oneMore, rowBytes, rowEnd, rowMore, secondByte, thirdByte, typeZero}
+use Rattle.codes.specs.FunctionCodes.{digit}
+use Rattle.diagnostics.specs.Blocks.{AllFitting, Block, ChannelFits, Fitting, RowSays, Says, channel, channelFits, device, deviceFits, firstByte, identifier, identifierFits, itsOwn, noneLeft, oneMore, rowBytes, rowEnd, rowMore, secondByte, thirdByte, typeZero}
 use Rattle.diagnostics.specs.Channel.{Channel, channelOf, numberOf, typeOf}
 use Rattle.diagnostics.specs.Walk.{Placed, block, blockAt, bodyOf, channelIs, deviceAt, identifierAt, lengthOf, pictured, stepOf, walkOf, walkSteps, whole}
 use Rattle.diagnostics.proofs.Headers.{length-channel, length-sized}
@@ -17,13 +18,13 @@ use Rattle.diagnostics.proofs.Numbers.{type-kept, type-zero}
 use Rattle.diagnostics.proofs.Steps.{step-block, step-stays}
 use Rattle.diagnostics.proofs.Walks.{walk-off, walk-on}
 
-bit-small : (b : Bool) → bit b ≤ 1
-bit-small true = omega arith
-bit-small false = omega arith
+digit-small : (b : Bool) → digit b ≤ 1
+digit-small true = omega arith
+digit-small false = omega arith
 
-bit-back : (b : Bool) → eqb (bit b) 1 ≡ b
-bit-back true = refl
-bit-back false = refl
+digit-back : (b : Bool) → eqb (digit b) 1 ≡ b
+digit-back true = refl
+digit-back false = refl
 
 -- the second byte gives the channel, the input and the output back
 channel-number : (o i n : ℕ) → n < 64 → (128 * o + 64 * i + n) % 64 ≡ n
@@ -50,14 +51,14 @@ header-back m h = omega arith
 -- the three bytes of a channel say that channel
 channel-said : (c : Channel) → ChannelFits c → (third : ℕ) → typeOf (third / 32) ≡ c .dtype → third % 32 ≡ numberOf (c .error) → channelOf (firstByte c) (secondByte c) third ≡ c
 channel-said c f third type error =
-    let small = bit-small (c .input) in
+    let small = digit-small (c .input) in
     rw (
       header-back _ (f .moduleBits),
-      channel-number (bit (c .output)) (bit (c .input)) _ (f .channelBits),
-      input-number (bit (c .output)) (bit (c .input)) _ small (f .channelBits),
-      output-number (bit (c .output)) (bit (c .input)) _ small (f .channelBits),
-      bit-back (c .input),
-      bit-back (c .output),
+      channel-number (digit (c .output)) (digit (c .input)) _ (f .channelBits),
+      input-number (digit (c .output)) (digit (c .input)) _ small (f .channelBits),
+      output-number (digit (c .output)) (digit (c .input)) _ small (f .channelBits),
+      digit-back (c .input),
+      digit-back (c .output),
       type,
       error,
       f .errorSort,

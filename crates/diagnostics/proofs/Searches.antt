@@ -2,7 +2,7 @@
 -- Assumes nothing.
 use mathlib.Core.Path.{_≡_, refl}
 use mathlib.Core.Bool.{Bool, true, false}
-use mathlib.Core.List.{List, [], _∷_}
+use mathlib.Core.List.{List, _∷_}
 use mathlib.Core.Option.{Option, some, none}
 use Prim.Native.Nat.{ℕ, zero, suc, _+_, _-_, _*_, _≤_, _<_}
 use native.Mathlib.Decide.{decLt, ℕ-discrete}
@@ -12,7 +12,8 @@ use borrow.Author.Tests.{lt-leb}
 use lib.Dec.{leb}
 use lib.ListN.{length}
 use Rattle.codes.specs.Pick.{if}
-use Rattle.diagnostics.specs.Modules.{bitOf, firstOf, firstOfNext, modulesOf, setFrom, setOfNext}
+use Rattle.diagnostics.specs.Meaning.{FirstSet, asked, setFrom, setOfNext}
+use Rattle.diagnostics.specs.Modules.{bitOf, firstOf, firstOfNext, modulesOf}
 use Rattle.diagnostics.proofs.Bits.{bit-past}
 use Rattle.diagnostics.proofs.Steps.{clash}
 
@@ -40,12 +41,6 @@ module _ (body : List ℕ) where
   searched : (k from : ℕ) → Searched body k from (firstOfNext body k from)
   searched zero from = without (λ j h p. absurd (omega arith))
   searched (suc k) from = by-bit k from (bitOf body from) refl (searched k (suc from))
-
--- a module is the first set at or above a number
-pub record FirstSet (body : List ℕ) (from m : ℕ) : Type 0 where
-  pub above : from ≤ m
-  pub isSet : bitOf body m ≡ true
-  pub clearBefore : (j : ℕ) → from ≤ j → j < m → bitOf body j ≡ false
 
 first-by : {body : List ℕ} {k from : ℕ} {o : Option ℕ} (m : ℕ) → Searched body k from o → o ≡ some m → FirstSet body from m
 first-by n (first m low high set clear) e =
@@ -83,11 +78,6 @@ no-module body short from e j h = by (decLt j (modulesOf body))
     by : Dec (j < modulesOf body) → bitOf body j ≡ false
     by (yes inside) = clear-by (searched body (modulesOf body - from) from) e j h (omega arith)
     by (no past) = bit-past body j (omega (arith, modules-all body short))
-
--- what asking gives: the first module set, and then those set above it
-abbrev pub asked : List ℕ → Option ℕ → List ℕ
-asked body none = []
-asked body (some m) = m ∷ setFrom body (m + 1)
 
 asked-by : (body : List ℕ) (k from : ℕ) (b : Bool) → modulesOf body - from ≡ suc k → setOfNext body k (suc from) ≡ asked body (firstOfNext body k (suc from)) → if b (from ∷ setOfNext body k (suc from)) (setOfNext body k (suc from)) ≡ asked body (if b (some from) (firstOfNext body k (suc from)))
 unfolding setFrom

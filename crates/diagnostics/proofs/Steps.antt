@@ -8,6 +8,7 @@ use native.Mathlib.Omega.{arith}
 use borrow.Author.Tests.{le-leb, lt-leb}
 use lib.ListN.{length}
 use Rattle.codes.specs.Part.{byteAt}
+use Rattle.diagnostics.specs.Meaning.{Onward, ToTheEnd}
 use Rattle.diagnostics.specs.Walk.{Placed, atEnd, block, blockAt, headedBy, lengthOf, refused, refusedAt, stepOf}
 use Rattle.diagnostics.proofs.Headers.{headed-block, headed-cut, headed-reserved, headed-zero}
 
@@ -21,7 +22,7 @@ unfolding stepOf
 step-stays s at h = rw (le-leb _ _ h)
 
 -- inside what is walked the header decides
-step-inside : (s : List ℕ) (at : ℕ) → at < length s → stepOf s at ≡ headedBy s at (byteAt s at)
+pub step-inside : (s : List ℕ) (at : ℕ) → at < length s → stepOf s at ≡ headedBy s at (byteAt s at)
 unfolding stepOf
 step-inside s at h = rw (lt-leb _ _ h)
 
@@ -56,16 +57,12 @@ module _ (s : List ℕ) (at : ℕ) where
   pub step-case : StepCase s at
   step-case = by-place (decLt _ _)
 
--- a step inside what is walked moves on by at least one byte, and not past the end
-pub record Onward (s : List ℕ) (at : ℕ) : Type 0 where
-  pub moves : at < stepOf s at .cursor
-  pub within : stepOf s at .cursor ≤ length s
-
 onward-by : {s : List ℕ} {at : ℕ} → StepCase s at → at < length s → Onward s at
 onward-by (ended past e) h = absurd (omega arith)
 onward-by (refusal _ n _ _ e) h = record { moves = rw e h; within = rw e (omega arith) }
 onward-by (found _ _ some fits e) h = record { moves = rw e (omega arith); within = rw e fits }
 
+-- a step inside what is walked moves on by at least one byte, and not past the end
 pub step-onward : (s : List ℕ) (at : ℕ) → at < length s → Onward s at
 step-onward s at h = onward-by (step-case s at) h
 
@@ -78,13 +75,6 @@ found-by (found h open₃ some fits e) r = onward-by (found h open₃ some fits 
 pub step-found : (s : List ℕ) (at : ℕ) (p : Placed) → stepOf s at .answer ≡ block p → Onward s at
 step-found s at p r = found-by (step-case s at) r
 
--- a refused step: its number is 12, 13 or 14, and it moves the cursor to the end and nowhere else
-pub record ToTheEnd (s : List ℕ) (at n : ℕ) : Type 0 where
-  pub inside : at < length s
-  pub cursorAt : stepOf s at .cursor ≡ length s
-  pub least : 12 ≤ n
-  pub most : n ≤ 14
-
 to-the-end-by : {s : List ℕ} {at : ℕ} (n : ℕ) → StepCase s at → stepOf s at .answer ≡ refused n → ToTheEnd s at n
 to-the-end-by n (ended past e) r = clash (cc)
 to-the-end-by n (refusal h m low high e) r =
@@ -92,5 +82,6 @@ to-the-end-by n (refusal h m low high e) r =
     record { inside = h; cursorAt = rw e; least = rw same low; most = rw same high }
 to-the-end-by n (found h _ some fits e) r = clash (cc)
 
+-- a refused step: its number is 12, 13 or 14, and it moves the cursor to the end and nowhere else
 pub step-refused : (s : List ℕ) (at n : ℕ) → stepOf s at .answer ≡ refused n → ToTheEnd s at n
 step-refused s at n r = to-the-end-by n (step-case s at) r

@@ -10,8 +10,9 @@ use lib.Dec.{eqb}
 use lib.ListN.{length, take, drop, drop-of-length-le, length-drop, length-take, take-append-drop}
 use lib.Seq.{drop-cons, drop-drop}
 use Rattle.codes.proofs.PartLaws.{shown-fits}
+use Rattle.codes.specs.FunctionCodes.{digit}
 use Rattle.codes.specs.Part.{byteAt, part}
-use Rattle.diagnostics.specs.Blocks.{Block, ChannelFits, Fitting, RowSays, Says, bit, blockBytes, channel, channelFits, device, deviceFits, firstByte, identifier, identifierFits, itsOwn, rowEnd, rowMore, secondByte, thirdByte, typeZero}
+use Rattle.diagnostics.specs.Blocks.{Block, ChannelFits, Fitting, RowSays, Says, blockBytes, channel, channelFits, device, deviceFits, firstByte, identifier, identifierFits, itsOwn, rowEnd, rowMore, secondByte, thirdByte, typeZero}
 use Rattle.diagnostics.specs.Channel.{Channel, channelOf, errorOf, numberOf, typeOf}
 use Rattle.diagnostics.specs.Walk.{blockAt, bodyOf, lengthOf, pictured, walkOf, walkSteps, whole}
 use Rattle.diagnostics.proofs.Bodies.{Kind, channelKind, deviceKind, identifierKind, kind}
@@ -20,17 +21,17 @@ use Rattle.diagnostics.proofs.Steps.{StepCase, clash, ended, found, ste
 use Rattle.diagnostics.proofs.Walks.{walk-off, walk-on, walk-refused}
 
 -- a bit is the number that was tested
-bit-again : (n : ℕ) → n < 2 → bit (eqb n 1) ≡ n
-bit-again zero h = refl
-bit-again (suc zero) h = refl
-bit-again (suc (suc n)) h = absurd (omega arith)
+digit-again : (n : ℕ) → n < 2 → digit (eqb n 1) ≡ n
+digit-again zero h = refl
+digit-again (suc zero) h = refl
+digit-again (suc (suc n)) h = absurd (omega arith)
 
 module _ (first second third : ℕ) where
   first-again : first / 64 ≡ 2 → firstByte (channelOf first second third) ≡ first
   first-again h = omega arith
 
   second-again : second < 256 → secondByte (channelOf first second third) ≡ second
-  second-again h = rw (bit-again (second / 128) (omega arith), bit-again (second / 64 % 2) (omega arith)) (omega arith)
+  second-again h = rw (digit-again (second / 128) (omega arith), digit-again (second / 64 % 2) (omega arith)) (omega arith)
 
   third-again : 1 ≤ third / 32 → thirdByte (channelOf first second third) ≡ third
   third-again h = rw (type-kept _ h, error-number) (omega arith)

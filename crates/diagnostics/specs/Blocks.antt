@@ -2,10 +2,10 @@
 -- here knows how a reader goes about it.
 -- Assumes nothing.
 use Prim.Native.Nat.{ℕ, suc, _+_, _*_, _≤_, _<_}
-use mathlib.Core.Bool.{Bool, true, false}
 use mathlib.Core.List.{List, [], _∷_, _++_}
 use mathlib.Core.Path.{_≡_}
 use lib.ListN.{length}
+use Rattle.codes.specs.FunctionCodes.{digit}
 use Rattle.diagnostics.specs.Channel.{Channel, errorOf, numberOf}
 
 -- one block, with the bytes of its body
@@ -14,18 +14,13 @@ pub data Block : Type 0 where
   device : List ℕ → Block
   channel : Channel → Block
 
--- a bit as a number
-abbrev pub bit : Bool → ℕ
-bit true = 1
-bit false = 0
-
 -- first byte top two bits 10, the low six bits the module
 abbrev pub firstByte : Channel → ℕ
 firstByte c = 128 + c .moduleNo
 
 -- second byte bit 6 input, bit 7 output, the low six bits the channel
 abbrev pub secondByte : Channel → ℕ
-secondByte c = 128 * bit (c .output) + 64 * bit (c .input) + c .channelNo
+secondByte c = 128 * digit (c .output) + 64 * digit (c .input) + c .channelNo
 
 -- third byte top three bits type, low five bits error
 abbrev pub thirdByte : Channel → ℕ

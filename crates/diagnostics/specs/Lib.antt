@@ -4,3 +4,4 @@ pub mod Walk
 pub mod Store
 pub mod Modules
 pub mod Shown
+pub mod Meaning

@@ -2,7 +2,7 @@
 -- Assumes nothing.
 use Prim.Native.Nat.{ℕ, zero, suc, _-_, _*_, _/_, _%_, _^_}
 use mathlib.Core.Bool.{Bool}
-use mathlib.Core.List.{List, [], _∷_}
+use mathlib.Core.List.{List}
 use mathlib.Core.Option.{Option, some, none}
 use lib.ListN.{length}
 use lib.Dec.{leb, eqb}
@@ -25,12 +25,3 @@ firstOfNext body (suc k) from = if (bitOf body from) (some from) (firstOfNext bo
 -- the first module set at or above a number
 unfoldable pub firstOf : List ℕ → ℕ → Option ℕ
 firstOf body from = firstOfNext body (modulesOf body - from) from
-
--- those of k modules from a number that are set, rising
-abbrev pub setOfNext : List ℕ → ℕ → ℕ → List ℕ
-setOfNext body zero from = []
-setOfNext body (suc k) from = if (bitOf body from) (from ∷ setOfNext body k (suc from)) (setOfNext body k (suc from))
-
--- the modules set at or above a number, rising
-unfoldable pub setFrom : List ℕ → ℕ → List ℕ
-setFrom body from = setOfNext body (modulesOf body - from) from

@@ -1,3 +1,4 @@
+// Channel-based diagnostics: what the three bytes of a channel block say.
 ghost use mathlib.Core.Path.{_≡_};
 ghost use Prim.Native.Nat.{_*_, _/_, _%_};
 ghost use Rattle.diagnostics.specs.Channel.{channelOf, errorOf, numberOf, typeOf};

@@ -1,10 +1,9 @@
+// The bits of an identifier block's body: one for each module, in the order of the configuration telegram. profirust
+// gives them as a `BitSlice`.
 ghost use mathlib.Core.Path.{_≡_};
 ghost use Prim.Native.Nat.{_%_};
 ghost use Rattle.diagnostics.specs.Modules.{bitOf, firstOf, modulesOf};
 ghost use Rattle.diagnostics.specs.Shown.{shownModule};
-
-// The bits of an identifier block's body: one for each module, in the order of the configuration telegram. profirust
-// gives them as a `BitSlice`.
 
 // So many modules have a bit in the longest body, of 62 bytes.
 pub const MODULES: usize = 496;

@@ -1,3 +1,4 @@
+// The store: how much of the slice that the caller lends is diagnostics, and filling it.
 use crate::walk::ExtDiagBlockIter;
 use buffers::copy_to_front;
 ghost use mathlib.Core.Path.{_≡_};

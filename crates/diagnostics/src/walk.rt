@@ -1,3 +1,4 @@
+// The walk over the blocks of a store, one step for each call.
 use crate::channel::ChannelDiagnostics;
 use crate::store::ExtendedDiagnostics;
 use codes::Part;

@@ -20,12 +20,6 @@ use diagnostics::modules;
 // The code at the end of the walk.
 pub const AT_END: u8 = 101;
 
-fn wide(x: u8) -> usize
-    ensures { λ r. ⌜ r ≡ x ⌝ }
-{
-    x as usize
-}
-
 fn digit_of(on: bool) -> usize
     ensures { λ r. ⌜ r ≡ digit on ⌝ }
 {
@@ -43,12 +37,12 @@ fn channel_told(c: ChannelDiagnostics) -> [usize; 9]
 {
     let dtype = c.dtype;
     let error = c.error;
-    let module = wide(c.module);
-    let channel = wide(c.channel);
+    let module = c.module as usize;
+    let channel = c.channel as usize;
     let input = digit_of(c.input);
     let output = digit_of(c.output);
-    let type_no = wide(type_number(dtype));
-    let error_no = wide(error.into_diag_byte2());
+    let type_no = type_number(dtype) as usize;
+    let error_no = error.into_diag_byte2() as usize;
     [3, 0, 0, module, channel, input, output, type_no, error_no]
 }
 

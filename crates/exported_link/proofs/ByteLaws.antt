@@ -1,4 +1,4 @@
--- Laws of the bytes of a record: a head of numbers, then 246 bytes.
+-- Laws of the bytes of a record: a head of numbers, the last of which is a length, then 246 bytes.
 -- Assumes nothing.
 use mathlib.Core.Path.{_≡_, sym, _∙_}
 use mathlib.Core.List.{List, _++_, append-nil}
@@ -6,8 +6,15 @@ use Prim.Native.Nat.{ℕ, _+_, _-_, _≤_}
 use native.Mathlib.Omega.{arith}
 use lib.ListN.{length, take, drop, length-append, length-drop, drop-of-length-le}
 use lib.Seq.{drop-length, take-all, take-append-seam, drop-append-seam}
+use borrow.Author.Tests.{lt-ltb}
 use Rattle.buffers.specs.Front.{copiedTo}
 use Rattle.buffers.proofs.FrontLaws.{copied-fits}
+use Rattle.exported_link.specs.Bytes.{lengthByte}
+
+-- A length that the calls leave is its byte.
+pub length-again : (n : ℕ) → n ≤ 246 → lengthByte n ≡ n
+unfolding lengthByte
+length-again n h = rw (lt-ltb n 256 (omega arith))
 
 -- Bytes that are as many as the buffer's take all of it.
 pub copied-whole : (buffer bytes : List ℕ) → length bytes ≡ length buffer → copiedTo buffer bytes ≡ bytes

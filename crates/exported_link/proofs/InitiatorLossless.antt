@@ -4,17 +4,17 @@ use Prim.Native.Nat.{ℕ, _+_, _≤_}
 use mathlib.Core.Bool.{Bool, true, false}
 use mathlib.Core.List.{List, []}
 use mathlib.Core.Path.{_≡_, refl}
-use native.Mathlib.Omega.{arith}
 use lib.Dec.{ltb, lit≤}
 use lib.ListN.{length}
-use borrow.Author.Tests.{le-leb, lt-ltb}
+use borrow.Author.Tests.{le-leb}
 use Rattle.codes.specs.Pick.{if}
 use Rattle.codes.specs.Refusals as refusals
 use Rattle.codes.specs.Refusals.{Outcome}
 use Rattle.codes.specs.declared.address.Address.{Address}
 use Rattle.initiator.proofs.OrderLaws.{order-small}
 use Rattle.initiator.specs.Calls.{Said, confirmed, notSent, unknown, nothing, Turn, inPhase, keeping, endsOf, refusing, withRoom, wrote, writesOf, asksOf, sendsOf, wrongOrder, submitIn, submitOf, silenceIn, silenceOf, awaitingOk, awaitingReply, hearIn, hearOf, restartIn, restartOf}
-use Rattle.initiator.specs.Records.{Made, lenOf, orderOf, usedOf, closedOf, noStation, madeOf, wrongAddresses, wrongTries}
+use Rattle.initiator.specs.Records.{Made, lenOf, orderOf, usedOf, closedOf, madeOf}
+use Rattle.link_rules.specs.Rules.{noStation, wrongAddresses, wrongTries}
 use Rattle.initiator.specs.declared.state.Initiator.{Initiator}
 use Rattle.initiator.specs.declared.state.Phase.{Phase}
 use Rattle.initiator.specs.declared.state.Phase.the-variants.{Closed, Ready, Opening, Order}
@@ -27,7 +27,9 @@ use Rattle.link_telegrams.specs.declared.heard.ReplyHeard.the-variants as heard
 use Rattle.telegram.specs.declared.header.DataTelegramHeader.{DataTelegramHeader}
 use Rattle.telegram_tx.specs.Writing.{writeOf, bufferOf}
 use Rattle.telegram_tx.specs.declared.tx.TelegramTxResponse.{TelegramTxResponse}
-use Rattle.exported_link.specs.InitiatorBytes.{phaseNumber, phaseOf, lengthByte, initiatorOf, initiatorBytes}
+use Rattle.exported_link.proofs.ByteLaws.{length-again}
+use Rattle.exported_link.specs.Bytes.{lengthByte}
+use Rattle.exported_link.specs.InitiatorBytes.{phaseNumber, phaseOf, initiatorOf, initiatorBytes}
 
 phase-again : (p : Phase) → phaseOf (phaseNumber p) (usedOf p) ≡ p
 unfolding phaseOf
@@ -37,10 +39,6 @@ phase-again (Ready High) = refl
 phase-again (Opening k) = refl
 phase-again (Order Low k) = refl
 phase-again (Order High k) = refl
-
-pub length-again : (n : ℕ) → n ≤ 246 → lengthByte n ≡ n
-unfolding lengthByte
-length-again n h = rw (lt-ltb n 256 (omega arith))
 
 order-length-again : (i : Initiator) → i .len ≤ 246 → lengthByte (lenOf i) ≡ i .len
 order-length-again i h = rw (le-leb (i .len) 246 h) (length-again (i .len) h)
@@ -154,7 +152,7 @@ unfolding madeOf
 made-small own peer tries =
     let none = closedOf noStation noStation 1 in
     let some = closedOf own peer tries in
-    picked-made (wrongAddresses own peer) (record { number = 18; initiator = none })
+    picked-made (wrongAddresses (own .0) (peer .0)) (record { number = 18; initiator = none })
     (if (wrongTries tries) (record { number = 19; initiator = none }) (record { number = 0; initiator = some }))
     (lit≤ tt)
     (picked-made (wrongTries tries) (record { number = 19; initiator = none }) (record { number = 0; initiator = some }) (lit≤ tt) (lit≤ tt))

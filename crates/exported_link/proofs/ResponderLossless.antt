@@ -21,7 +21,8 @@ use Rattle.link_telegrams.specs.declared.heard.RequestHeard.{RequestHeard}
 use Rattle.link_telegrams.specs.declared.heard.RequestHeard.the-variants as heard
 use Rattle.responder_row.proofs.RowLaws.{held-within}
 use Rattle.responder.specs.Calls.{Turn, refusing, withRoom, wrote, writesOf, writesReplyOf, actsOf, hearIn, answerIn, hearOf, answerOf}
-use Rattle.responder_row.specs.Rows.{heldOf, blankRow, storedBit, sameBit, wrongLength, dropping, ignoring, againOn, otherOn, orderOn, rowHears, answersIn, rowAnswers, holding, rowAfter}
+use Rattle.link_rules.specs.Rules.{wrongLength}
+use Rattle.responder_row.specs.Rows.{heldOf, blankRow, storedBit, sameBit, dropping, ignoring, againOn, otherOn, orderOn, rowHears, answersIn, rowAnswers, holding, rowAfter}
 use Rattle.responder_row.specs.declared.row.Row.{Row}
 use Rattle.responder_row.specs.declared.row.RowAction.{RowAction}
 use Rattle.responder_row.specs.declared.row.RowAction.the-variants as action
@@ -34,9 +35,9 @@ use Rattle.responder.specs.declared.state.Responder.{Responder}
 use Rattle.telegram.specs.declared.header.DataTelegramHeader.{DataTelegramHeader}
 use Rattle.telegram_tx.specs.Writing.{writeOf, bufferOf}
 use Rattle.telegram_tx.specs.declared.tx.TelegramTxResponse.{TelegramTxResponse}
-use Rattle.exported_link.specs.InitiatorBytes.{lengthByte}
+use Rattle.exported_link.proofs.ByteLaws.{length-again}
+use Rattle.exported_link.specs.Bytes.{lengthByte}
 use Rattle.exported_link.specs.ResponderBytes.{stateNumber, stateOf, responderOf, responderBytes}
-use Rattle.exported_link.proofs.InitiatorLossless.{length-again}
 
 -- the array has 246 bytes, and the reply at most as many
 pub record Sized (row : Row) : Type 0 where

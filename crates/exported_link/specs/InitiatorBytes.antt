@@ -2,20 +2,16 @@
 -- Assumes nothing.
 use Prim.Native.Nat.{ℕ}
 use mathlib.Core.List.{List, _∷_}
-use lib.Dec.{eqb, ltb}
+use lib.Dec.{eqb}
 use lib.ListN.{drop}
 use Rattle.codes.specs.Part.{byteAt}
 use Rattle.codes.specs.Pick.{if}
+use Rattle.exported_link.specs.Bytes.{byBit, lengthByte}
 use Rattle.initiator.specs.Records.{lenOf, usedOf}
 use Rattle.initiator.specs.declared.state.Initiator.{Initiator}
 use Rattle.initiator.specs.declared.state.Phase.{Phase}
 use Rattle.initiator.specs.declared.state.Phase.the-variants.{Closed, Ready, Opening, Order}
-use Rattle.link_telegrams.specs.declared.headers.Bit.{Bit}
 use Rattle.link_telegrams.specs.declared.headers.Bit.the-variants.{Low, High}
-
-abbrev pub byBit : Bit → ℕ → ℕ → ℕ
-byBit Low low high = low
-byBit High low high = high
 
 abbrev pub phaseNumber : Phase → ℕ
 phaseNumber Closed = 0
@@ -29,10 +25,6 @@ phaseOf n k =
     if (eqb n 1) (Ready Low)
     (if (eqb n 2) (Ready High)
     (if (eqb n 3) (Opening k) (if (eqb n 4) (Order Low k) (if (eqb n 5) (Order High k) Closed))))
-
--- the byte of a length that is at most 246; a greater one than a byte holds counts as 255
-unfoldable pub lengthByte : ℕ → ℕ
-lengthByte n = if (ltb n 256) n 255
 
 -- the record of these bytes, whatever they are
 abbrev pub initiatorOf : List ℕ → Initiator

@@ -1,10 +1,8 @@
--- What a call of the initiator is to a program in another language: a code, the numbers told, and the lent bytes at its end.
+-- What a call of the initiator is to a program in another language.
 -- Assumes nothing.
 use Prim.Native.Nat.{ℕ}
-use mathlib.Core.Bool.{Bool, true, false}
 use mathlib.Core.List.{List, [], _∷_}
-use lib.Dec.{eqb}
-use Rattle.codes.specs.Pick.{if}
+use Rattle.exported_link.specs.Calls.{Call, NewCall, unlessRefused}
 use Rattle.exported_link.specs.InitiatorBytes.{initiatorBytes}
 use Rattle.initiator.specs.Calls.{Said, sent, confirmed, notSent, unknown, nothing, refused, Turn}
 use Rattle.initiator.specs.Records.{Made}
@@ -27,32 +25,17 @@ toldOf (unknown tries) = 0 ∷ 0 ∷ tries ∷ []
 toldOf nothing = 0 ∷ 0 ∷ 0 ∷ []
 toldOf (refused n) = 0 ∷ 0 ∷ 0 ∷ []
 
-abbrev pub isRefused : Said → Bool
-isRefused (sent n) = false
-isRefused (confirmed reply tries) = false
-isRefused (notSent tries) = false
-isRefused (unknown tries) = false
-isRefused nothing = false
-isRefused (refused n) = true
-
-pub record Call : Type 0 where
-  pub code : ℕ
-  pub told : List ℕ
-  pub state : List ℕ
-  pub buffer : List ℕ
-
--- a call by value, with the state's bytes and the numbers as they came: both stay where it was refused
+-- a call by value, with the state's bytes and the numbers as they came
 unfoldable pub crossed : List ℕ → List ℕ → Turn → Call
 crossed state told turn =
-    if (isRefused (turn .said))
-    (record { code = codeOf (turn .said); told = told; state = state; buffer = turn .buffer })
-    (record { code = codeOf (turn .said); told = toldOf (turn .said); state = initiatorBytes (turn .initiator); buffer = turn .buffer })
+    record {
+      code = codeOf (turn .said);
+      told = unlessRefused (codeOf (turn .said)) told (toldOf (turn .said));
+      state = unlessRefused (codeOf (turn .said)) state (initiatorBytes (turn .initiator));
+      buffer = turn .buffer;
+    }
 
-pub record NewCall : Type 0 where
-  pub code : ℕ
-  pub state : List ℕ
-
--- making a link: refused, the bytes stay
+-- making a link
 unfoldable pub newCall : Made → List ℕ → NewCall
 newCall made state =
-    record { code = made .number; state = if (eqb (made .number) 0) (initiatorBytes (made .initiator)) state }
+    record { code = made .number; state = unlessRefused (made .number) state (initiatorBytes (made .initiator)) }

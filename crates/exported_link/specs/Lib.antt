@@ -1,3 +1,5 @@
+pub mod Bytes
+pub mod Calls
 pub mod InitiatorBytes
 pub mod InitiatorCalls
 pub mod ResponderBytes

@@ -6,7 +6,7 @@ use lib.Dec.{eqb}
 use lib.ListN.{drop, length}
 use Rattle.codes.specs.Part.{byteAt}
 use Rattle.codes.specs.Pick.{if}
-use Rattle.exported_link.specs.InitiatorBytes.{byBit, lengthByte}
+use Rattle.exported_link.specs.Bytes.{byBit, lengthByte}
 use Rattle.link_telegrams.specs.declared.headers.Bit.the-variants.{Low, High}
 use Rattle.responder_row.specs.Rows.{heldOf}
 use Rattle.responder_row.specs.declared.row.Row.{Row}

@@ -1,11 +1,8 @@
--- What a call of the responder is to a program in another language: a code, the numbers told, and the lent bytes at its end.
+-- What a call of the responder is to a program in another language.
 -- Assumes nothing.
 use Prim.Native.Nat.{ℕ}
-use mathlib.Core.Bool.{Bool, true, false}
 use mathlib.Core.List.{List, [], _∷_}
-use lib.Dec.{eqb}
-use Rattle.codes.specs.Pick.{if}
-use Rattle.exported_link.specs.InitiatorCalls.{Call, NewCall}
+use Rattle.exported_link.specs.Calls.{Call, NewCall, unlessRefused}
 use Rattle.exported_link.specs.ResponderBytes.{responderBytes}
 use Rattle.responder.specs.Calls.{Said, sent, handUp, nothing, refused, Turn}
 use Rattle.responder.specs.Records.{Made}
@@ -24,20 +21,17 @@ toldOf (handUp order) = order .start ∷ order .len ∷ []
 toldOf nothing = 0 ∷ 0 ∷ []
 toldOf (refused n) = 0 ∷ 0 ∷ []
 
-abbrev pub isRefused : Said → Bool
-isRefused (sent n) = false
-isRefused (handUp order) = false
-isRefused nothing = false
-isRefused (refused n) = true
-
--- a call by value, with the state's bytes and the numbers as they came: both stay where it was refused
+-- a call by value, with the state's bytes and the numbers as they came
 unfoldable pub crossed : List ℕ → List ℕ → Turn → Call
 crossed state told turn =
-    if (isRefused (turn .said))
-    (record { code = codeOf (turn .said); told = told; state = state; buffer = turn .buffer })
-    (record { code = codeOf (turn .said); told = toldOf (turn .said); state = responderBytes (turn .responder); buffer = turn .buffer })
+    record {
+      code = codeOf (turn .said);
+      told = unlessRefused (codeOf (turn .said)) told (toldOf (turn .said));
+      state = unlessRefused (codeOf (turn .said)) state (responderBytes (turn .responder));
+      buffer = turn .buffer;
+    }
 
--- making a responder: refused, the bytes stay
+-- making a responder
 unfoldable pub newCall : Made → List ℕ → NewCall
 newCall made state =
-    record { code = made .number; state = if (eqb (made .number) 0) (responderBytes (made .responder)) state }
+    record { code = made .number; state = unlessRefused (made .number) state (responderBytes (made .responder)) }

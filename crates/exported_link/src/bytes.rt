@@ -1,16 +1,17 @@
-// What the two records' bytes have in common.
+// What the two ends have in common.
 ghost use mathlib.Core.Path.{_≡_};
 ghost use mathlib.Core.List.{_++_};
 ghost use Prim.Native.Nat.{_+_};
 ghost use lib.ListN.{drop, length};
-ghost use Rattle.exported_link.specs.InitiatorBytes.{byBit, lengthByte};
+ghost use Rattle.exported_link.specs.Bytes.{byBit, lengthByte};
+ghost use Rattle.exported_link.specs.Calls.{isRefusal};
 use buffers::copy_to_front;
 use link_telegrams::Bit;
 
-pub(crate) fn wide(x: u8) -> usize
-    ensures { λ r. ⌜ r ≡ x ⌝ }
+pub(crate) fn is_refusal(code: u8) -> bool
+    ensures { λ r. ⌜ r ≡ isRefusal code ⌝ }
 {
-    x as usize
+    if 0 < code { code < 100 } else { false }
 }
 
 pub(crate) fn by_bit(bit: Bit, low: u8, high: u8) -> u8

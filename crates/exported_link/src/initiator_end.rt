@@ -5,14 +5,13 @@ ghost use lib.ListN.{length};
 ghost use Rattle.initiator.specs.Calls.{shownSaid, shownTurn, submitOf, silenceOf, hearOf, restartOf};
 ghost use Rattle.initiator.specs.Records.{madeOf};
 ghost use Rattle.exported_link.specs.InitiatorBytes.{phaseNumber, phaseOf, initiatorOf, initiatorBytes};
-ghost use Rattle.exported_link.specs.InitiatorCalls.{codeOf, toldOf, isRefused, crossed, newCall};
+ghost use Rattle.exported_link.specs.InitiatorCalls.{codeOf, toldOf, crossed, newCall};
 use crate::bytes::by_bit;
+use crate::bytes::is_refusal;
 use crate::bytes::length_byte;
 use crate::bytes::store;
 use crate::bytes::tail;
-use crate::bytes::wide;
 use codes::Address;
-use codes::Answer;
 use initiator::Initiator;
 use initiator::InitiatorAnswer;
 use initiator::InitiatorTurn;
@@ -48,14 +47,13 @@ fn unpack(bytes: [u8; 252]) -> Initiator
 {
     let phase = phase_of(bytes[3], bytes[4]);
     let order = tail(&bytes, 6);
-    let len = wide(bytes[5]);
     Initiator::from_parts(
         Address(bytes[0]),
         Address(bytes[1]),
         bytes[2],
         phase,
         order,
-        len,
+        bytes[5] as usize,
     )
 }
 
@@ -92,24 +90,11 @@ fn told_of(answer: InitiatorAnswer) -> [usize; 3]
 {
     match answer {
         InitiatorAnswer::Sent(n) => [n, 0, 0],
-        InitiatorAnswer::Confirmed(reply, tries) => [reply.start, reply.len, wide(tries)],
-        InitiatorAnswer::NotSent(tries) => [0, 0, wide(tries)],
-        InitiatorAnswer::Unknown(tries) => [0, 0, wide(tries)],
+        InitiatorAnswer::Confirmed(reply, tries) => [reply.start, reply.len, tries as usize],
+        InitiatorAnswer::NotSent(tries) => [0, 0, tries as usize],
+        InitiatorAnswer::Unknown(tries) => [0, 0, tries as usize],
         InitiatorAnswer::Nothing => [0, 0, 0],
         InitiatorAnswer::Refused(_) => [0, 0, 0],
-    }
-}
-
-fn is_refused(answer: InitiatorAnswer) -> bool
-    ensures { λ r. ⌜ r ≡ isRefused (shownSaid answer) ⌝ }
-{
-    match answer {
-        InitiatorAnswer::Sent(_) => false,
-        InitiatorAnswer::Confirmed(_, _) => false,
-        InitiatorAnswer::NotSent(_) => false,
-        InitiatorAnswer::Unknown(_) => false,
-        InitiatorAnswer::Nothing => false,
-        InitiatorAnswer::Refused(_) => true,
     }
 }
 
@@ -120,7 +105,7 @@ fn finish(turn: InitiatorTurn, state: &mut [u8; 252], told: &mut [usize; 3]) -> 
 {
     let answer = turn.answer;
     let code = code_of(answer);
-    if is_refused(answer) {
+    if is_refusal(code) {
         return code;
     }
     *told = told_of(answer);
@@ -136,13 +121,12 @@ fn made(own: u8, peer: u8, tries: u8, state: &mut [u8; 252]) -> u8
     let link = Initiator::new(Address(own), Address(peer), tries);
     let answer = link.answer;
     let initiator = link.initiator;
-    match answer {
-        Answer::Done => {
-            pack(initiator, state);
-            0
-        }
-        Answer::Refused(refusal) => refusal.number(),
+    let code = answer.number();
+    if is_refusal(code) {
+        return code;
     }
+    pack(initiator, state);
+    code
 }
 
 // Nothing of the old bytes is read but their number, which the array's type gives.

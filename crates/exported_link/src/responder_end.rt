@@ -5,14 +5,13 @@ ghost use lib.ListN.{length};
 ghost use Rattle.responder.specs.Calls.{shownSaid, shownTurn, hearOf, answerOf, restartOf};
 ghost use Rattle.responder.specs.Records.{madeOf};
 ghost use Rattle.exported_link.specs.ResponderBytes.{stateNumber, stateOf, responderOf, responderBytes};
-ghost use Rattle.exported_link.specs.ResponderCalls.{codeOf, toldOf, isRefused, crossed, newCall};
+ghost use Rattle.exported_link.specs.ResponderCalls.{codeOf, toldOf, crossed, newCall};
 use crate::bytes::by_bit;
+use crate::bytes::is_refusal;
 use crate::bytes::length_byte;
 use crate::bytes::store;
 use crate::bytes::tail;
-use crate::bytes::wide;
 use codes::Address;
-use codes::Answer;
 use link_telegrams::Bit;
 use responder::Responder;
 use responder::ResponderAnswer;
@@ -49,7 +48,7 @@ fn unpack(bytes: [u8; 250]) -> Responder
 {
     let state = state_of(bytes[2]);
     let held = tail(&bytes, 4);
-    let row = Row::from_parts(state, held, wide(bytes[3]));
+    let row = Row::from_parts(state, held, bytes[3] as usize);
     Responder::from_parts(Address(bytes[0]), Address(bytes[1]), row)
 }
 
@@ -89,17 +88,6 @@ fn told_of(answer: ResponderAnswer) -> [usize; 2]
     }
 }
 
-fn is_refused(answer: ResponderAnswer) -> bool
-    ensures { λ r. ⌜ r ≡ isRefused (shownSaid answer) ⌝ }
-{
-    match answer {
-        ResponderAnswer::Sent(_) => false,
-        ResponderAnswer::HandUp(_) => false,
-        ResponderAnswer::Nothing => false,
-        ResponderAnswer::Refused(_) => true,
-    }
-}
-
 // A refused call left the record as it came, so its bytes are not touched.
 fn finish(turn: ResponderTurn, state: &mut [u8; 250], told: &mut [usize; 2]) -> u8
     requires { ⌜ length (now state) ≡ 250 ⌝ }
@@ -107,7 +95,7 @@ fn finish(turn: ResponderTurn, state: &mut [u8; 250], told: &mut [usize; 2]) -> 
 {
     let answer = turn.answer;
     let code = code_of(answer);
-    if is_refused(answer) {
+    if is_refusal(code) {
         return code;
     }
     *told = told_of(answer);
@@ -123,13 +111,12 @@ fn made(own: u8, peer: u8, state: &mut [u8; 250]) -> u8
     let link = Responder::new(Address(own), Address(peer));
     let answer = link.answer;
     let responder = link.responder;
-    match answer {
-        Answer::Done => {
-            pack(responder, state);
-            0
-        }
-        Answer::Refused(refusal) => refusal.number(),
+    let code = answer.number();
+    if is_refusal(code) {
+        return code;
     }
+    pack(responder, state);
+    code
 }
 
 // Nothing of the old bytes is read but their number, which the array's type gives.

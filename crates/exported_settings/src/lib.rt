@@ -14,18 +14,12 @@ use settings::SettingsWritten;
 use settings::read_settings;
 use settings::write_settings;
 
-fn wide(x: u8) -> usize
-    ensures { λ r. ⌜ r ≡ x ⌝ }
-{
-    x as usize
-}
-
 fn told_of(settings: Settings) -> [usize; 3]
     ensures { λ r. ⌜ r ≡ settings .own .0 ∷ settings .peer .0 ∷ settings .tries ∷ [] ⌝ }
 {
-    let own = wide(settings.own.0);
-    let peer = wide(settings.peer.0);
-    let tries = wide(settings.tries);
+    let own = settings.own.0 as usize;
+    let peer = settings.peer.0 as usize;
+    let tries = settings.tries as usize;
     [own, peer, tries]
 }
 

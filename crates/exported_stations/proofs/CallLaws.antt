@@ -1,40 +1,15 @@
 -- Laws that carry a call by value across to a call on lent bytes.
 -- Assumes nothing.
-use mathlib.Core.Path.{_≡_, refl, ap, _∙_}
-use mathlib.Core.Bool.{Bool, true, false, true≢false}
+use mathlib.Core.Path.{_≡_, ap, _∙_}
 use mathlib.Core.List.{List}
 use Prim.Native.Nat.{ℕ, suc}
-use lib.Dec.{eqb}
-use borrow.Author.Tests.{ne-eqb}
-use Rattle.codes.proofs.NumberLaws.{shown-injective}
-use Rattle.codes.specs.Refusals.{numberOf, shown}
-use Rattle.codes.specs.declared.refusal.Answer.{Answer}
-use Rattle.codes.specs.declared.refusal.Answer.the-variants.{Done, Refused}
-use Rattle.codes.specs.declared.refusal.Refusal.{Refusal}
+use Rattle.codes.specs.Refusals.{shown}
 use Rattle.token_ring.specs.Flags.{active, lowestFrom, highestBelow}
 use Rattle.token_ring.specs.Promises.{Gives}
 use Rattle.token_ring.specs.declared.ring.Changed.{Changed}
 use Rattle.token_ring.specs.declared.ring.TokenRing.{TokenRing}
 use Rattle.exported_stations.specs.Bytes.{stationsBytes}
 use Rattle.exported_stations.specs.Calls.{Call, crossed, foundNumber}
-
-isRefusal : Answer → Bool
-isRefusal Done = false
-isRefusal (Refused x) = true
-
--- No refusal has the number of done.
-not-zero : (x : Refusal) → eqb (numberOf x) 0 ≡ false
-unfolding isRefusal
-not-zero x = ne-eqb (numberOf x) 0 (λ e. true≢false (ap isRefusal (shown-injective (Refused x) Done e)))
-
-module _ (a : Answer) (s : List ℕ) (r : TokenRing) where
-  pub done : a ≡ Done → record { code = 0; state = stationsBytes r } ≡ crossed s (shown a) r
-  unfolding crossed
-  done e = rw e
-
-  pub refused : (x : Refusal) → a ≡ Refused x → record { code = numberOf x; state = s } ≡ crossed s (shown a) r
-  unfolding crossed
-  refused x e = rw (e, not-zero x)
 
 -- A call that may refuse gives what its promise says.
 pub given : (s : List ℕ) {c : Call} (ch : Changed) (n : ℕ) (r : TokenRing) → c ≡ crossed s (shown (ch .answer)) (ch .ring) → Gives n r ch → c ≡ crossed s n r

@@ -3,7 +3,7 @@
 use Prim.Native.Nat.{ℕ}
 use mathlib.Core.List.{List, [], _∷_}
 use mathlib.Core.Option.{Option, none, some}
-use lib.Dec.{eqb}
+use lib.Dec.{ltb}
 use Rattle.codes.specs.Pick.{if}
 use Rattle.exported_stations.specs.Bytes.{phaseNumber, stationsBytes}
 use Rattle.token_ring.specs.declared.ring.TokenRing.{TokenRing}
@@ -13,9 +13,9 @@ pub record Call : Type 0 where
   pub code : ℕ
   pub state : List ℕ
 
--- refused, the bytes stay
+-- a call with this number, 0 where it was done: refused, the bytes stay
 unfoldable pub crossed : List ℕ → ℕ → TokenRing → Call
-crossed state number after = record { code = number; state = if (eqb number 0) (stationsBytes after) state }
+crossed state number after = record { code = number; state = if (ltb 0 number) state (stationsBytes after) }
 
 -- phase, own, next, previous
 abbrev pub aboutOf : TokenRing → List ℕ

@@ -10,16 +10,9 @@ use crate::bytes::pack;
 use crate::bytes::phase_number;
 use crate::bytes::unpack;
 use codes::Address;
-use codes::Answer;
 use token_ring::Changed;
 use token_ring::Found;
 use token_ring::TokenRing;
-
-fn wide(x: u8) -> usize
-    ensures { λ r. ⌜ r ≡ x ⌝ }
-{
-    x as usize
-}
 
 // A refused call left the list as it came, so its bytes are not touched.
 fn finish(changed: Changed, state: &mut [u8; 132]) -> u8
@@ -28,13 +21,12 @@ fn finish(changed: Changed, state: &mut [u8; 132]) -> u8
 {
     let answer = changed.answer;
     let ring = changed.ring;
-    match answer {
-        Answer::Done => {
-            pack(ring, state);
-            0
-        }
-        Answer::Refused(refusal) => refusal.number(),
+    let code = answer.number();
+    if 0 < code {
+        return code;
     }
+    pack(ring, state);
+    code
 }
 
 // Nothing of the old bytes is read but their number, which the array's type gives.
@@ -90,11 +82,11 @@ pub fn stations_remove(state: &mut [u8; 132], address: u8) -> u8
 fn about(ring: TokenRing) -> [usize; 4]
     ensures { λ r. ⌜ r ≡ aboutOf ring ⌝ }
 {
-    let phase = wide(phase_number(ring.las_state()));
+    let phase = phase_number(ring.las_state()) as usize;
     let own = ring.this_station();
     let next = ring.next_station();
     let previous = ring.previous_station();
-    [phase, wide(own.0), wide(next.0), wide(previous.0)]
+    [phase, own.0 as usize, next.0 as usize, previous.0 as usize]
 }
 
 pub fn stations_about(state: &[u8; 132], told: &mut [usize; 4])
@@ -117,7 +109,7 @@ fn found_number(found: Found) -> usize
     ensures { λ r. ⌜ r ≡ foundNumber (shownFound found) ⌝ }
 {
     match found {
-        Found::Station(a) => wide(a.0),
+        Found::Station(a) => a.0 as usize,
         Found::Nothing => 256,
     }
 }

@@ -12,17 +12,11 @@ pub const ABSENT: usize = 256;
 // The code of "incomplete".
 pub const INCOMPLETE: u8 = 100;
 
-pub(crate) fn wide(x: u8) -> usize
-    ensures { λ r. ⌜ r ≡ x ⌝ }
-{
-    x as usize
-}
-
 fn sap_number(sap: SapOption) -> usize
     ensures { λ r. ⌜ r ≡ sapNumber sap ⌝ }
 {
     match sap {
-        SapOption::Some(s) => wide(s.0),
+        SapOption::Some(s) => s.0 as usize,
         SapOption::None => ABSENT,
     }
 }
@@ -30,8 +24,8 @@ fn sap_number(sap: SapOption) -> usize
 fn token_told(t: TokenTelegram, total: usize) -> [usize; 9]
     ensures { λ r. ⌜ r ≡ toldOf (Telegram.Token t) total ⌝ }
 {
-    let da = wide(t.da.0);
-    let sa = wide(t.sa.0);
+    let da = t.da.0 as usize;
+    let sa = t.sa.0 as usize;
     [2, total, da, sa, ABSENT, ABSENT, ABSENT, 0, 0]
 }
 
@@ -42,11 +36,11 @@ fn data_told(t: DataTelegram, total: usize) -> [usize; 9]
     let dsap = h.dsap;
     let ssap = h.ssap;
     let fc = h.fc;
-    let da = wide(h.da.0);
-    let sa = wide(h.sa.0);
+    let da = h.da.0 as usize;
+    let sa = h.sa.0 as usize;
     let d = sap_number(dsap);
     let s = sap_number(ssap);
-    let f = wide(fc.to_byte());
+    let f = fc.to_byte() as usize;
     [3, total, da, sa, d, s, f, t.pdu.start, t.pdu.len]
 }
 

@@ -5,7 +5,6 @@ ghost use lib.ListN.{length};
 ghost use Rattle.exported_telegrams.specs.Write.{addressNumber, codedCall, headerOf, outcomeCode, sapOf, writeCall, writeDataCall};
 ghost use Rattle.telegram_tx.specs.Writing.{shownWriting, writeOf, bufferOf, writeTokenOf, tokenBufferOf, writeConfirmationOf, confirmationBufferOf};
 use crate::reading::ABSENT;
-use crate::reading::wide;
 use codes::Address;
 use codes::FunctionCode;
 use codes::FunctionCodeFound;
@@ -47,7 +46,7 @@ fn address_number(address: AddressOption) -> usize
     ensures { λ r. ⌜ r ≡ addressNumber address ⌝ }
 {
     match address {
-        AddressOption::Some(a) => wide(a.0),
+        AddressOption::Some(a) => a.0 as usize,
         AddressOption::None => ABSENT,
     }
 }

@@ -1,12 +1,13 @@
 -- Laws of the calls, one for each case of document 01: what a call comes to where the room and the phase are known.
 -- Assumes nothing.
 use Prim.Native.Nat.{ℕ, _+_, _<_, _≤_}
-use mathlib.Core.Bool.{true, false}
+use mathlib.Core.Bool.{Bool, true, false}
 use mathlib.Core.List.{List}
 use mathlib.Core.Path.{_≡_, _∙_, ap}
 use lib.ListN.{length}
 use borrow.Author.Tests.{lt-ltb, le-ltb}
-use Rattle.initiator.specs.Calls.{Turn, refusing, asksOf, sendsOf, endsOf, keeping, notSent, unknown, wrongOrder, submitIn, submitOf, silenceIn, silenceOf, hearIn, hearOf, restartIn, restartOf}
+use Rattle.codes.specs.Pick.{if}
+use Rattle.initiator.specs.Calls.{refusing, asksOf, sendsOf, endsOf, keeping, notSent, unknown, wrongOrder, submitIn, submitOf, silenceIn, silenceOf, hearIn, hearOf, restartIn, restartOf}
 use Rattle.initiator.specs.declared.state.Initiator.{Initiator}
 use Rattle.initiator.specs.declared.state.Phase.{Phase}
 use Rattle.initiator.specs.declared.state.Phase.the-variants.{Closed, Ready, Opening, Order}
@@ -16,7 +17,7 @@ use Rattle.link_telegrams.specs.declared.headers.Bit.{Bit}
 module _ (i : Initiator) (q buf : List ℕ) where
   pub submit-short : length buf < 255 → submitOf i q buf ≡ refusing 10 i buf
   unfolding submitOf
-  submit-short h = rw (lt-ltb _ _ h)
+  submit-short h = ap (λ (t : Bool). if t (refusing 10 i buf) (submitIn (i .phase) i q buf)) (lt-ltb (length buf) 255 h)
 
   pub submit-at : {p : Phase} → 255 ≤ length buf → i .phase ≡ p → submitOf i q buf ≡ submitIn p i q buf
   unfolding submitOf
@@ -50,7 +51,8 @@ module _ (i : Initiator) (buf : List ℕ) where
   silence-not-sent h e l = silence-at h e ∙ rw (le-ltb _ _ l)
 
   pub silence-sends : {b : Bit} {k : ℕ} → 255 ≤ length buf → i .phase ≡ Order b k → k < i .tries → silenceOf i buf ≡ sendsOf i i b (k + 1) buf
-  silence-sends h e l = silence-at h e ∙ rw (lt-ltb _ _ l)
+  silence-sends {b} {k} h e l =
+      silence-at h e ∙ ap (λ (t : Bool). if t (sendsOf i i b (k + 1) buf) (endsOf (unknown k) i Closed buf)) (lt-ltb k (i .tries) l)
 
   pub silence-unknown : {b : Bit} {k : ℕ} → 255 ≤ length buf → i .phase ≡ Order b k → i .tries ≤ k → silenceOf i buf ≡ endsOf (unknown k) i Closed buf
   silence-unknown h e l = silence-at h e ∙ rw (le-ltb _ _ l)

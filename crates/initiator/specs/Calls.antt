@@ -1,23 +1,24 @@
 -- Document 01, "Initiator": what each call answers, the record that it leaves, and the buffer.
 -- Assumes nothing.
 use Prim.Native.Nat.{ℕ, _+_}
-use mathlib.Core.Bool.{Bool, true, false}
+use mathlib.Core.Bool.{Bool, true}
 use mathlib.Core.List.{List, []}
 use mathlib.Core.Path.{_≡_}
-use lib.Dec.{eqb, ltb}
+use lib.Dec.{ltb}
 use lib.ListN.{length}
 use Rattle.buffers.specs.Front.{copiedTo}
 use Rattle.codes.specs.Pick.{if}
 use Rattle.codes.specs.Refusals as refusals
 use Rattle.codes.specs.Refusals.{Outcome, numberOf}
 use Rattle.codes.specs.declared.part.Part.{Part}
-use Rattle.initiator.specs.Records.{isPending, orderOf}
+use Rattle.initiator.specs.Records.{orderOf}
 use Rattle.initiator.specs.declared.calls.InitiatorAnswer.{InitiatorAnswer}
 use Rattle.initiator.specs.declared.calls.InitiatorAnswer.the-variants as answer
 use Rattle.initiator.specs.declared.calls.InitiatorTurn.{InitiatorTurn}
 use Rattle.initiator.specs.declared.state.Initiator.{Initiator}
 use Rattle.initiator.specs.declared.state.Phase.{Phase}
 use Rattle.initiator.specs.declared.state.Phase.the-variants.{Closed, Ready, Opening, Order}
+use Rattle.link_rules.specs.Rules.{wrongLength}
 use Rattle.link_telegrams.specs.Headers.{openingHeader, orderHeader, cycledBit}
 use Rattle.link_telegrams.specs.Heard.{replyHeardOf}
 use Rattle.link_telegrams.specs.declared.headers.Bit.{Bit}
@@ -126,7 +127,7 @@ withRoom i buf turn = if (ltb (length buf) 255) (refusing 10 i buf) turn
 
 -- 16: "order empty or above 246"
 abbrev pub wrongOrder : List ℕ → Bool
-wrongOrder q = if (eqb (length q) 0) true (ltb 246 (length q))
+wrongOrder q = wrongLength (length q)
 
 -- "Submitting sends the opening if closed, else the order"; "Submitting 10, 17, 16"
 abbrev pub submitIn : Phase → Initiator → List ℕ → List ℕ → Turn

@@ -1,23 +1,20 @@
 -- Document 01, "Initiator": its record, how one is made, and what may be asked of it.
 -- Assumes nothing.
 use Prim.Native.Nat.{ℕ}
-use mathlib.Core.Bool.{Bool, true, false, _||_}
+use mathlib.Core.Bool.{Bool, true, false}
 use mathlib.Core.List.{List}
-use lib.Dec.{eqb, leb, ltb}
+use lib.Dec.{leb}
 use lib.ListN.{take, replicate}
 use Rattle.codes.specs.Pick.{if}
 use Rattle.codes.specs.Refusals.{shown}
 use Rattle.codes.specs.declared.address.Address.{Address}
 use Rattle.codes.specs.declared.frame_count_bit.FrameCountBit.{FrameCountBit}
 use Rattle.codes.specs.declared.frame_count_bit.FrameCountBit.the-variants.{First}
-use Rattle.codes.specs.declared.refusal.Answer.{Answer}
-use Rattle.codes.specs.declared.refusal.Answer.the-variants.{Done, Refused}
-use Rattle.codes.specs.declared.refusal.Refusal.{Refusal}
-use Rattle.codes.specs.declared.refusal.Refusal.the-variants as refusal
 use Rattle.initiator.specs.declared.state.Initiator.{Initiator}
 use Rattle.initiator.specs.declared.state.InitiatorMade.{InitiatorMade}
 use Rattle.initiator.specs.declared.state.Phase.{Phase}
 use Rattle.initiator.specs.declared.state.Phase.the-variants.{Closed, Ready, Opening, Order}
+use Rattle.link_rules.specs.Rules.{wrongAddresses, wrongTries, noStation}
 use Rattle.link_telegrams.specs.Headers.{fcbOfBit}
 
 -- "default 2"
@@ -28,21 +25,6 @@ defaultTries = 2
 abbrev pub closedOf : Address → Address → ℕ → Initiator
 closedOf own peer tries =
     record { own = own; peer = peer; tries = tries; phase = Closed; order = replicate 246 0; len = 0 }
-
--- 18: "link addresses above 125 or equal"
-abbrev pub wrongAddresses : Address → Address → Bool
-wrongAddresses own peer = if (ltb 125 (own .0)) true (if (ltb 125 (peer .0)) true (eqb (own .0) (peer .0)))
-
--- 19: "tries outside 1 to 8"
-abbrev pub wrongTries : ℕ → Bool
-wrongTries tries = if (ltb tries 1) true (ltb 8 tries)
-
--- what stands beside a refusal: addresses that no station has, so that it writes nothing and hears nothing
-abbrev pub noStation : Address
-noStation = record { 0 = 255 }
-
-abbrev pub notMadeOf : Refusal → InitiatorMade
-notMadeOf r = record { answer = Refused r; initiator = closedOf noStation noStation 1 }
 
 -- the answer's number, and the record
 pub record Made : Type 0 where
@@ -55,7 +37,7 @@ shownMade m = record { number = shown (m .answer); initiator = m .initiator }
 -- "Settings 20, 18, 19": 18 before 19
 unfoldable pub madeOf : Address → Address → ℕ → Made
 madeOf own peer tries =
-    if (wrongAddresses own peer) (record { number = 18; initiator = closedOf noStation noStation 1 })
+    if (wrongAddresses (own .0) (peer .0)) (record { number = 18; initiator = closedOf noStation noStation 1 })
     (if (wrongTries tries) (record { number = 19; initiator = closedOf noStation noStation 1 })
     (record { number = 0; initiator = closedOf own peer tries }))
 

@@ -1,7 +1,7 @@
 ghost use mathlib.Core.Path.{_≡_};
 ghost use mathlib.Core.List.{List, []};
 ghost use Prim.Native.Nat.{ℕ};
-ghost use Rattle.initiator.specs.Calls.{shownTurn, submitIn, submitOf, silenceIn, silenceOf, awaitingOk, awaitingReply, hearIn, hearOf, restartOf};
+ghost use Rattle.initiator.specs.Calls.{shownTurn, submitOf, silenceOf, awaitingOk, awaitingReply, hearOf, restartOf};
 use crate::moves::asks;
 use crate::moves::end;
 use crate::moves::keep;

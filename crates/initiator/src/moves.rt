@@ -10,6 +10,7 @@ use crate::state::Initiator;
 use crate::state::Phase;
 use buffers::copy_to_front;
 use codes::Refusal;
+use link_rules::wrong_length;
 use link_telegrams::Bit;
 use link_telegrams::opening_header;
 use link_telegrams::order_header;
@@ -75,10 +76,7 @@ pub(crate) fn nothing(initiator: Initiator) -> InitiatorTurn
 pub(crate) fn wrong_order(order: &[u8]) -> bool
     ensures { λ r. ⌜ r ≡ wrongOrder (now (order .entry)) ⌝ }
 {
-    if order.len() == 0 {
-        return true;
-    }
-    246 < order.len()
+    wrong_length(order.len())
 }
 
 // The call is over once the writer has answered: `next` goes on where it wrote, and `given` where it refused.

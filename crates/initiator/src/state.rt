@@ -1,9 +1,12 @@
 ghost use mathlib.Core.Path.{_≡_};
-ghost use Rattle.initiator.specs.Records.{closedOf, notMadeOf, shownMade, madeOf, defaultTries, isPending, usedOf, bitOf, lenOf};
+ghost use Rattle.link_rules.specs.Rules.{noStation};
+ghost use Rattle.initiator.specs.Records.{closedOf, shownMade, madeOf, defaultTries, isPending, usedOf, bitOf, lenOf};
 use codes::Address;
 use codes::Answer;
 use codes::FrameCountBit;
 use codes::Refusal;
+use link_rules::wrong_addresses;
+use link_rules::wrong_tries;
 use link_telegrams::Bit;
 
 // What the link is about. An order is pending in the last two.
@@ -52,7 +55,7 @@ fn closed(own: Address, peer: Address, tries: u8) -> Initiator
 
 // What stands beside a refusal to make a link: its addresses are no station's, so that it writes nothing and hears nothing.
 fn not_made(refusal: Refusal) -> InitiatorMade
-    ensures { λ r. ⌜ r ≡ notMadeOf refusal ⌝ }
+    ensures { λ r. ⌜ r ≡ record { answer = Answer.Refused refusal; initiator = closedOf noStation noStation 1 } ⌝ }
 {
     let answer = Answer::Refused(refusal);
     let initiator = closed(Address(255), Address(255), 1);
@@ -64,19 +67,10 @@ impl Initiator {
     pub fn new(own: Address, peer: Address, tries: u8) -> InitiatorMade
         ensures { λ r. ⌜ shownMade r ≡ madeOf own peer tries ⌝ }
     {
-        if 125 < own.0 {
+        if wrong_addresses(own, peer) {
             return not_made(Refusal::LinkAddresses);
         }
-        if 125 < peer.0 {
-            return not_made(Refusal::LinkAddresses);
-        }
-        if own.0 == peer.0 {
-            return not_made(Refusal::LinkAddresses);
-        }
-        if tries < 1 {
-            return not_made(Refusal::Tries);
-        }
-        if 8 < tries {
+        if wrong_tries(tries) {
             return not_made(Refusal::Tries);
         }
         let initiator = closed(own, peer, tries);

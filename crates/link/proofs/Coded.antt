@@ -5,7 +5,7 @@
 use Prim.Native.Nat.{ℕ}
 use mathlib.Core.Bool.{Bool, true, false, _&&_, _||_, false≢true}
 use mathlib.Core.Logic.{_⊎_, inl, inr}
-use mathlib.Core.Option.{Option, none, some}
+use mathlib.Core.Option.{Option, none, some, Option·map}
 use mathlib.Core.Path.{_≡_, refl, sym, _∙_, ap, ap₂, subst, subst⁻¹}
 use Rattle.codes.specs.Pick.{if}
 use Rattle.link.specs.Messages.{Bytes, Bit, Message, opening, ok, order, reply, other, isOpening}
@@ -15,8 +15,9 @@ use Rattle.link.specs.Responder.{Row, RowTurn, blank, opened, owes, hold
 use Rattle.link.specs.Line.{Pair}
 use Rattle.link.specs.Demand.{Demand}
 use Rattle.link.specs.Ours.{ours}
-use Rattle.link.specs.Follows.{seen, Written, Same, Follows}
 use Rattle.link.specs.Coded.{Request, anOpening, anOrder, noRequest, Response, anOk, aReply, noResponse, requestOf, responseOf, Codec, takenOf, putTurn, coded, Faithful}
+use Rattle.link.proofs.Follows.{Written, Same, Follows}
+use Rattle.link.proofs.Ignored.{ignores-own, ignores-other}
 use Rattle.link.proofs.Theorem.{follower-demand}
 use Rattle.link.proofs.Transfer.{demand-same}
 
@@ -41,28 +42,10 @@ same-to-responder x noRequest anOk = refl
 same-to-responder x noRequest (aReply p) = refl
 same-to-responder x noRequest noResponse = refl
 
-ignores-opening : (n : ℕ) (p : Phase) → hearIn n p opening ≡ ignoring (record { tries = n; phase = p })
-ignores-opening n closed = refl
-ignores-opening n (ready b) = refl
-ignores-opening n (asking q k) = refl
-ignores-opening n (sending b q k) = refl
-
-ignores-order : (n : ℕ) (p : Phase) (b : Bit) (q : Bytes) → hearIn n p (order b q) ≡ ignoring (record { tries = n; phase = p })
-ignores-order n closed b q = refl
-ignores-order n (ready c) b q = refl
-ignores-order n (asking x k) b q = refl
-ignores-order n (sending c x k) b q = refl
-
-ignores-other : (n : ℕ) (p : Phase) → hearIn n p other ≡ ignoring (record { tries = n; phase = p })
-ignores-other n closed = refl
-ignores-other n (ready b) = refl
-ignores-other n (asking q k) = refl
-ignores-other n (sending b q k) = refl
-
 ignores-joined :
     (i : Initiator) (q : Request) (r : Response) → hearOf i (responseOf r) ≡ ignoring i → hearOf i (joined q r) ≡ ignoring i
-ignores-joined i anOpening r e = ignores-opening (i .tries) (i .phase)
-ignores-joined i (anOrder b q) r e = ignores-order (i .tries) (i .phase) b q
+ignores-joined i anOpening r e = ignores-own (i .tries) (i .phase) opening tt
+ignores-joined i (anOrder b q) r e = ignores-own (i .tries) (i .phase) (order b q) tt
 ignores-joined i noRequest r e = e
 
 ignored-by-responder :
@@ -109,11 +92,11 @@ module _ (C : Codec) (F : Faithful C) where
   SoundRow (owes b) = Unit {0}
   SoundRow (holds b p) = C .answerable p ≡ true
 
-  seen-put : (w : Option Message) → Written Proper w → seen view (seen (C .put) w) ≡ w
+  seen-put : (w : Option Message) → Written Proper w → Option·map view (Option·map (C .put) w) ≡ w
   seen-put none y = refl
   seen-put (some m) y = ap some (view-put m y)
 
-  sound-put : (w : Option Message) → Written Proper w → Written SoundTelegram (seen (C .put) w)
+  sound-put : (w : Option Message) → Written Proper w → Written SoundTelegram (Option·map (C .put) w)
   sound-put none y = tt
   sound-put (some m) y = (m, y, refl)
 

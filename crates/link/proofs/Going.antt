@@ -16,6 +16,7 @@ use Rattle.link.specs.History.{Given, made, dropped, entry, History, his
 use Rattle.link.specs.Line.{State, submits, silent, initiatorHears, responderHears, answers, initiatorDone, step, Heard, inFlight, stray, Lawful}
 use Rattle.link.specs.Live.{Silent, Flight, theTry, theAnswer, another, answerTo, Missed, Wide, Between, over, silentShort, submitsBeside, initiatorMisses, responderAttends, responderServes, answersLate}
 use Rattle.link.specs.Ours.{ours}
+use Rattle.link.proofs.Ignored.{FromInitiator, FromResponder, ignores-own, ignores-answers}
 use Rattle.link.proofs.Invariant.{Inv}
 use Rattle.link.proofs.Steps.{hushed, attended-keeps, answer-keeps}
 
@@ -39,21 +40,6 @@ Fit closed r = ⊥
 Fit (ready b) r = ⊥
 Fit (asking q k) r = Unit {0}
 Fit (sending b q k) r = Settled r
-
--- who wrote a message
-abbrev pub FromInitiator : Message → Type 0
-FromInitiator opening = Unit {0}
-FromInitiator ok = ⊥
-FromInitiator (order b q) = Unit {0}
-FromInitiator (reply p) = ⊥
-FromInitiator other = ⊥
-
-abbrev pub FromResponder : Message → Type 0
-FromResponder opening = ⊥
-FromResponder ok = Unit {0}
-FromResponder (order b q) = ⊥
-FromResponder (reply p) = Unit {0}
-FromResponder other = ⊥
 
 -- an older order's reply, which comes late: in the order's phase none is owed
 abbrev pub Late : Phase → Message → Type 0
@@ -131,22 +117,7 @@ number-given :
 number-given a r h =
     number-noted (rowAnswers r a .says) (answered (rowAnswers r a .says) a h) ∙ number-answered (rowAnswers r a .says) a h
 
--- an initiator ignores its own telegrams and late replies
-ignores-own :
-    (n : ℕ) (p : Phase) (m : Message) → FromInitiator m → hearIn n p m ≡ ignoring (record { tries = n; phase = p })
-ignores-own n closed m y = refl
-ignores-own n (ready b) m y = refl
-ignores-own n (asking q k) opening y = refl
-ignores-own n (asking q k) ok y = absurd y
-ignores-own n (asking q k) (order b p) y = refl
-ignores-own n (asking q k) (reply p) y = absurd y
-ignores-own n (asking q k) other y = absurd y
-ignores-own n (sending b q k) opening y = refl
-ignores-own n (sending b q k) ok y = absurd y
-ignores-own n (sending b q k) (order c p) y = refl
-ignores-own n (sending b q k) (reply p) y = absurd y
-ignores-own n (sending b q k) other y = absurd y
-
+-- an initiator ignores late replies
 ignores-late : (n : ℕ) (p : Phase) (m : Message) → Late p m → hearIn n p m ≡ ignoring (record { tries = n; phase = p })
 ignores-late n closed m y = absurd y
 ignores-late n (ready b) m y = absurd y
@@ -221,14 +192,6 @@ try-answered p ok r y = absurd y
 try-answered p (order b q) r y = ordered-flies p (sameBit r b) r b q
 try-answered p (reply x) r y = absurd y
 try-answered p other r y = absurd y
-
--- a responder ignores what it wrote itself
-ignores-answers : (r : Row) (m : Message) → FromResponder m → rowHears r m ≡ ignoring r
-ignores-answers r opening y = absurd y
-ignores-answers r ok y = refl
-ignores-answers r (order b q) y = absurd y
-ignores-answers r (reply p) y = refl
-ignores-answers r other y = absurd y
 
 late-from-responder : (p : Phase) (m : Message) → Late p m → FromResponder m
 late-from-responder closed m y = absurd y

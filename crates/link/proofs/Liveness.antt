@@ -4,12 +4,13 @@
 -- Assumes nothing.
 use Prim.Native.Nat.{ℕ, suc, _+_, _≤_, _<_}
 use native.Mathlib.Omega.{arith}
-use lib.Dec.{T, ltb, lt→ltb, eqb, eqb-refl}
+use lib.Dec.{eqb}
 use lib.ListN.{length, length-map}
+use borrow.Author.Tests.{lt-ltb, eq-eqb}
 use mathlib.Core.Bool.{Bool, true, false, true≢false, false≢true}
 use mathlib.Core.List.{List, map}
 use mathlib.Core.Option.{Option, some}
-use mathlib.Core.Path.{_≡_, refl, _∙_, ap, subst⁻¹}
+use mathlib.Core.Path.{_≡_, refl, sym, _∙_, subst⁻¹}
 use Rattle.codes.specs.Pick.{if}
 use Rattle.link.specs.Messages.{Bytes, Bit, low, high, Message, opening, order}
 use Rattle.link.specs.Turns.{confirmed}
@@ -20,11 +21,12 @@ use Rattle.link.specs.Line.{State, Call, submits, silent, sentOf, initia
 use Rattle.link.specs.Safe.{entriesOf}
 use Rattle.link.specs.Live.{reportAt, Accepted, Confirmed, Flight, theTry, Wide, Prompt, passes, Tried, passed, again, Phase as Reached, Phases, opensFirst, orderAtOnce, Live}
 use Rattle.link.specs.Ours.{ours}
+use Rattle.link.proofs.Ignored.{FromInitiator}
 use Rattle.link.proofs.Invariant.{left, leftOnce, never, once, justOpened, heldHigh, heldLow, owing, holding, openingA, orderO, orderS, Inv, atRest, leftUnserved, leftServed, atReady, atAsking, unserved, served}
 use Rattle.link.proofs.Kept.{kept-settled}
 use Rattle.link.proofs.Steps.{Rule}
-use Rattle.link.proofs.Whole.{InvOf, always}
-use Rattle.link.proofs.Going.{wide, at-wide, Settled, Fit, FromInitiator, latestNo, stateOf, Going, goes, go-between}
+use Rattle.link.proofs.Always.{InvOf, always}
+use Rattle.link.proofs.Going.{wide, at-wide, Settled, Fit, latestNo, stateOf, Going, goes, go-between}
 
 -- its try is in flight
 data Trying (n num : ℕ) (p : Phase) (m : Message) : State ours → Type 0 where
@@ -51,13 +53,6 @@ try-own : (f : Which) → FromInitiator (tryOf f)
 try-own (asks q) = tt
 try-own (sends b q) = tt
 
-is-left : (k n : ℕ) → k < n → ltb k n ≡ true
-is-left k n h = go (ltb k n) (lt→ltb k n h)
-  where
-    go : (b : Bool) → T b → b ≡ true
-    go true t = refl
-    go false t = absurd t
-
 -- silence, reported with room while a try is left: the telegram is written again
 go-silent :
     {n num : ℕ} {x : Flight} {s : State ours} (f : Which) (k : ℕ) → suc k < n → Going n num x (phaseOf f (suc k)) s → (w : Wide ours)
@@ -66,13 +61,13 @@ go-silent {n} {num} {s = s} (asks q) k h (goes (atAsking v l) f y e) =
     at-wide (λ w. Trying n num (asking q (suc (suc k))) opening (step ours s (silent (w .room))))
     (subst⁻¹
     (λ more. Trying n num (asking q (suc (suc k))) opening (initiatorDone ours s (s .isClosed) (s .unbroken) (s .past) (silenceIn more n (asking q (suc k)))))
-    (is-left (suc k) n h) (tries (atAsking v openingA) f e))
+    (lt-ltb (suc k) n h) (tries (atAsking v openingA) f e))
 go-silent {n} {num} {s = s} (sends b q) k h (goes v f y e) =
     at-wide (λ w. Trying n num (sending b q (suc (suc k))) (order b q) (step ours s (silent (w .room))))
     (subst⁻¹
     (λ more.
     Trying n num (sending b q (suc (suc k))) (order b q) (initiatorDone ours s (s .isClosed) (s .unbroken) (s .past) (silenceIn more n (sending b q (suc k)))))
-    (is-left (suc k) n h) (again-sent (s .isClosed) v f e))
+    (lt-ltb (suc k) n h) (again-sent (s .isClosed) v f e))
   where
     again-sent :
         (c : Bool) {r : Row} {l : Option Message} {h : History} → Inv (sending b q (suc k)) r l h true → Settled r → latestNo h ≡ num
@@ -108,13 +103,6 @@ opening-passes n num q k s w p v (tries (atAsking {es = es} kp l) f e) =
 abbrev atOnce : (a : Bytes) → true ≡ true → Wide ours → Prompt ours
 atOnce a e w = record { bytes = a; isAnswerable = e; into = w }
 
-is-same : (n : ℕ) → eqb n n ≡ true
-is-same n = go (eqb n n) (eqb-refl n)
-  where
-    go : (b : Bool) → T b → b ≡ true
-    go true t = refl
-    go false t = absurd t
-
 -- the latest order has its number
 shown-at :
     {num : ℕ} (r : Bytes) (k : ℕ) (es : List Entry) → length es ≡ num
@@ -122,7 +110,7 @@ shown-at :
 shown-at {num} r k es e = (
   r,
   k,
-  subst⁻¹ (λ x. if x (ended (confirmed r k)) (reportAt num es) ≡ ended (confirmed r k)) (ap (eqb num) e ∙ is-same num) refl,
+  subst⁻¹ (λ x. if x (ended (confirmed r k)) (reportAt num es) ≡ ended (confirmed r k)) (eq-eqb num (length es) (sym e)) refl,
 )
 
 confirms :

@@ -14,7 +14,7 @@ use Rattle.link.specs.Safe.{Safe}
 use Rattle.link.specs.Ours.{ours}
 use Rattle.link.proofs.Invariant.{waits, left, waited, leftOnce, never, once, Inv, atRest, leftUnserved, leftServed, atReady, atAsking, unserved, served}
 use Rattle.link.proofs.Kept.{kept-safe}
-use Rattle.link.proofs.Whole.{always}
+use Rattle.link.proofs.Always.{always}
 
 inv-safe : {p : Phase} {r : Row} {l : Option Message} {h : History} {u : Bool} → Inv p r l h u → Safe h
 inv-safe (atRest k l) = kept-safe k

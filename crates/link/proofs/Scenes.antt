@@ -11,13 +11,14 @@ use mathlib.Core.Option.{Option, none, some}
 use mathlib.Core.Path.{_≡_, refl, subst⁻¹}
 use Rattle.link.specs.Messages.{Bytes}
 use Rattle.link.specs.Turns.{Told, refused, nothing, tells}
-use Rattle.link.specs.History.{History, nothingSent, openingSent, orderSent}
+use Rattle.link.specs.History.{nothingSent, openingSent, orderSent}
 use Rattle.link.specs.Line.{Pair, State, Call, initiatorMade, submits, silent, initiatorHears, initiatorRestarts, responderMade, responderHears, answers, responderRestarts, sentOf, step, start, run, Heard, inFlight, Permitted, Obeys}
 use Rattle.link.specs.Safe.{Safe, entriesOf}
-use Rattle.link.specs.Live.{reportAt, Confirmed, Accepted, Wide, Prompt, Silent, theTry, answersAtOnce, reachesResponder, passes, Between, over, silentShort, submitsBeside, initiatorMisses, responderAttends, responderServes, Tried, passed, again, Phase, Phases, opensFirst, orderAtOnce, saysNothing}
+use Rattle.link.specs.Live.{reportAt, Accepted, Wide, Prompt, Silent, theTry, answersAtOnce, reachesResponder, passes, Between, over, silentShort, submitsBeside, initiatorMisses, responderAttends, responderServes, Tried, passed, again, Phase, Phases, opensFirst, orderAtOnce, saysNothing}
 use Rattle.link.specs.Demand.{Demand}
 use Rattle.link.specs.Ours.{Head, Cabinet, linked}
 use Rattle.link.proofs.Kept.{IsConfirmed}
+use Rattle.link.proofs.Wrong.Tools.{not-confirmed}
 
 pub data Doing : Type 0 where
   -- the head end's application submits an order; silence is reported; the head end restarts, or is made anew with so
@@ -175,9 +176,6 @@ module _ {M : Type 0} (first : M → Bool) (h : Head M) (c : Cabinet M) where
         toTries = leb→le (suc (length ls)) (s .tries) y;
         tried = after-tried ls a s;
       }
-
-  not-confirmed : (n : ℕ) (h : History) → (IsConfirmed (reportAt n (entriesOf h)) → ⊥) → Confirmed n h → ⊥
-  not-confirmed n h bad e = bad (subst⁻¹ IsConfirmed (e .2) tt)
 
   -- the number of orders submitted in a scene
   abbrev pub orderNo : ℕ → List Doing → ℕ

@@ -3,7 +3,7 @@
 use Rattle.link.specs.Line.{Pair}
 use Rattle.link.specs.Demand.{Demand}
 use Rattle.link.specs.Ours.{ours}
-use Rattle.link.specs.Follows.{Follows}
+use Rattle.link.proofs.Follows.{Follows}
 use Rattle.link.proofs.Safety.{ours-safe}
 use Rattle.link.proofs.Liveness.{ours-live}
 use Rattle.link.proofs.Transfer.{demand-same}

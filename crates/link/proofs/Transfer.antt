@@ -5,7 +5,7 @@ use Prim.Native.Nat.{ℕ}
 use mathlib.Core.Bool.{Bool, true, false}
 use mathlib.Core.List.{List, [], _∷_, map}
 use mathlib.Core.Logic.{_⊎_, inl, inr}
-use mathlib.Core.Option.{Option, none, some}
+use mathlib.Core.Option.{Option, none, some, Option·map}
 use mathlib.Core.Path.{_≡_, refl, sym, _∙_, ap, subst, subst⁻¹}
 use Rattle.link.specs.Messages.{Bytes}
 use Rattle.link.specs.Turns.{Outcome, Told, refused, nothing, tells, Turn}
@@ -14,7 +14,7 @@ use Rattle.link.specs.Line.{Pair, State, Call, initiatorMade, submits, s
 use Rattle.link.specs.Safe.{Safe}
 use Rattle.link.specs.Live.{Accepted, Silent, Flight, theTry, theAnswer, another, answerTo, Missed, Wide, Prompt, answersAtOnce, reachesResponder, reachesInitiator, passes, Between, over, silentShort, submitsBeside, initiatorMisses, responderAttends, responderServes, answersLate, Tried, passed, again, Phase, Phases, opensFirst, orderAtOnce, saysNothing, Live}
 use Rattle.link.specs.Demand.{Demand}
-use Rattle.link.specs.Follows.{seen, Written, seenTurn, Same, Follows}
+use Rattle.link.proofs.Follows.{Written, seenTurn, Same, Follows}
 
 module _ (S O : Pair) (F : Follows S O) where
   abbrev toState : State S → State O
@@ -22,7 +22,7 @@ module _ (S O : Pair) (F : Follows S O) where
       record {
         initiator = F .viewInitiator (s .initiator);
         responder = F .viewResponder (s .responder);
-        line = seen (F .viewTelegram) (s .line);
+        line = Option·map (F .viewTelegram) (s .line);
         tries = s .tries;
         isClosed = s .isClosed;
         unbroken = s .unbroken;
@@ -48,7 +48,7 @@ module _ (S O : Pair) (F : Follows S O) where
   abbrev Sound : State S → Type 0
   Sound s = Parts (s .initiator) (s .responder) (s .line)
 
-  sent-same : (w : Option (S .Telegram)) → sentOf S w ≡ sentOf O (seen (F .viewTelegram) w)
+  sent-same : (w : Option (S .Telegram)) → sentOf S w ≡ sentOf O (Option·map (F .viewTelegram) w)
   sent-same none = refl
   sent-same (some t) = ap sentAs (F .sameOpens t)
 
@@ -60,7 +60,7 @@ module _ (S O : Pair) (F : Follows S O) where
       record {
         initiator = F .viewInitiator (t .next);
         responder = F .viewResponder (s .responder);
-        line = seen (F .viewTelegram) (t .writes);
+        line = Option·map (F .viewTelegram) (t .writes);
         tries = s .tries;
         isClosed = closedBy (t .says) c;
         unbroken = u;
@@ -104,7 +104,7 @@ module _ (S O : Pair) (F : Follows S O) where
       record {
         initiator = F .madeInitiator n l i;
         responder = F .viewResponder (s .responder);
-        line = seen (F .viewTelegram) (s .line);
+        line = Option·map (F .viewTelegram) (s .line);
         tries = n;
         isClosed = true;
         unbroken = false;
@@ -130,7 +130,7 @@ module _ (S O : Pair) (F : Follows S O) where
       record {
         initiator = F .viewInitiator (s .initiator);
         responder = F .madeResponder i;
-        line = seen (F .viewTelegram) (s .line);
+        line = Option·map (F .viewTelegram) (s .line);
         tries = s .tries;
         isClosed = s .isClosed;
         unbroken = false;
@@ -191,13 +191,13 @@ module _ (S O : Pair) (F : Follows S O) where
 
   initiator-heard :
       (i : S .Initiator) {l : Option (S .Telegram)} {t : S .Telegram} → F .SoundInitiator i → Heard (S .StrayToInitiator i) l t
-      → Heard (O .StrayToInitiator (F .viewInitiator i)) (seen (F .viewTelegram) l) (F .viewTelegram t)
+      → Heard (O .StrayToInitiator (F .viewInitiator i)) (Option·map (F .viewTelegram) l) (F .viewTelegram t)
   initiator-heard i y inFlight = inFlight
   initiator-heard i {t = t} y (stray e) = stray (F .strayToInitiator i t y e)
 
   responder-heard :
       (r : S .Responder) {l : Option (S .Telegram)} {t : S .Telegram} → F .SoundResponder r → Heard (S .StrayToResponder r) l t
-      → Heard (O .StrayToResponder (F .viewResponder r)) (seen (F .viewTelegram) l) (F .viewTelegram t)
+      → Heard (O .StrayToResponder (F .viewResponder r)) (Option·map (F .viewTelegram) l) (F .viewTelegram t)
   responder-heard r y inFlight = inFlight
   responder-heard r {t = t} y (stray e) = stray (F .strayToResponder r t y e)
 
@@ -286,7 +286,7 @@ module _ (S O : Pair) (F : Follows S O) where
   responder-reached :
       (w : Wide S) (p : Prompt S) (l : Option (S .Telegram)) (s : State S) → Written (F .SoundTelegram) l → Sound s
       → toState (reachesResponder S w p l s)
-      ≡ reachesResponder O (wide-same w) (prompt-same p) (seen (F .viewTelegram) l) (toState s)
+      ≡ reachesResponder O (wide-same w) (prompt-same p) (Option·map (F .viewTelegram) l) (toState s)
   responder-reached w p none s m y = refl
   responder-reached w p (some t) s m y =
       let f = F .responderHears (s .responder) (w .room) t (y .soundResponder) (inl m) in
@@ -301,7 +301,7 @@ module _ (S O : Pair) (F : Follows S O) where
 
   initiator-reached :
       (w : Wide S) (l : Option (S .Telegram)) (s : State S) → Written (F .SoundTelegram) l → Sound s
-      → toState (reachesInitiator S w l s) ≡ reachesInitiator O (wide-same w) (seen (F .viewTelegram) l) (toState s)
+      → toState (reachesInitiator S w l s) ≡ reachesInitiator O (wide-same w) (Option·map (F .viewTelegram) l) (toState s)
   initiator-reached w none s m y = refl
   initiator-reached w (some t) s m y = initiator-hears s (w .room) t y (inl m)
 

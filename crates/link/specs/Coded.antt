@@ -2,6 +2,7 @@
 -- telegram is, only the codec knows.
 -- Assumes nothing.
 use mathlib.Core.Bool.{Bool, true, _&&_, _||_}
+use mathlib.Core.Option.{Option·map}
 use mathlib.Core.Path.{_≡_}
 use Rattle.codes.specs.Pick.{if}
 use Rattle.link.specs.Messages.{Bytes, Bit, Message, opening, ok, order, reply, other, isOpening}
@@ -9,7 +10,6 @@ use Rattle.link.specs.Turns.{Turn, refusing, ignoring}
 use Rattle.link.specs.Initiator.{Initiator, newInitiator, submitOf, silenceOf, hearOf, restartOf}
 use Rattle.link.specs.Responder.{Row, newRow, sameBit, rowHears, rowAnswers}
 use Rattle.link.specs.Line.{Pair}
-use Rattle.link.specs.Follows.{seen}
 
 -- what a telegram is to the responder
 pub data Request : Type 0 where
@@ -58,7 +58,7 @@ takenOf C r noRequest = other
 
 -- a turn on messages, with its message put as a telegram
 abbrev pub putTurn : {End Tale : Type 0} (C : Codec) → Turn End Message Tale → Turn End (C .Telegram) Tale
-putTurn C t = record { next = t .next; writes = seen (C .put) (t .writes); says = t .says }
+putTurn C t = record { next = t .next; writes = Option·map (C .put) (t .writes); says = t .says }
 
 -- the two ends as a pair; a call with too little room, an order or an answer of another length, is refused
 abbrev pub coded : Codec → Pair

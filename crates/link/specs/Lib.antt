@@ -8,5 +8,4 @@ pub mod Safe
 pub mod Live
 pub mod Demand
 pub mod Ours
-pub mod Follows
 pub mod Coded

@@ -141,7 +141,8 @@ module _ (P : Pair) where
     saysNothing : {s z : State P} → Phase s z → Phases nothingSent s z
 
   -- The last sentence of demand 3, after any run: an order is submitted and accepted, neither end has restarted since
-  -- the opening began, the cabinet answers at once, and one try passes in each phase; then the order is confirmed.
+  -- the opening began, the cabinet answers at once, and one try passes in each phase; then the order is confirmed. What
+  -- is refused is no order; which are refused, and with which number, is the promise of the call and not demand 3's.
   abbrev pub Live : State P → Type 0
   Live s =
       (room : P .Room) (q : Bytes) (z : State P) → Accepted (P .submit (s .initiator) room q .says)

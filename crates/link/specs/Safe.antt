@@ -82,8 +82,8 @@ ByteForByte e = Every (λ u. bytesOf u ≡ orderOf e) (handUpsOf e)
 abbrev pub TriesWritten : Entry → Type 0
 TriesWritten e = (o : Outcome) → reportOf e ≡ ended o → triesOf o ≡ writtenOf e
 
--- "orders are carried out in the order submitted": all that was handed up, in time, is the orders that were carried
--- out, in that order
+-- "orders are carried out in the order submitted": all that was handed up, as it came in time, is the orders that were
+-- carried out, as they were submitted
 abbrev pub InOrder : History → Type 0
 InOrder (history es cs x) = cs ≡ carriedOf es
 

@@ -1,3 +1,4 @@
 pub mod BitLaws
+pub mod HeardCases
 pub mod HeardLaws
 pub mod WrittenLaws

@@ -27,7 +27,7 @@ module _ (h : DataTelegramHeader) (pdu : List ℕ) (da : h .da .0 ≤ 127) (sa :
   read-alone : readOf (telegramBytes h pdu) ≡ whole (Data (atFront h pdu)) (length (telegramBytes h pdu))
   read-alone = ap readOf (sym (append-nil (telegramBytes h pdu))) ∙ read-after-write h pdu da sa []
 
-  pub shown-alone : shownPart (atFront h pdu .pdu) (telegramBytes h pdu) ≡ pdu
+  shown-alone : shownPart (atFront h pdu .pdu) (telegramBytes h pdu) ≡ pdu
   shown-alone = ap (shownPart (atFront h pdu .pdu)) (sym (append-nil (telegramBytes h pdu))) ∙ pdu-after-write h pdu da sa []
 
 -- A telegram from one station to another.

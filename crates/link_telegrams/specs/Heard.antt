@@ -10,14 +10,11 @@ use Rattle.codes.specs.Pick.{if}
 use Rattle.codes.specs.declared.address.Address.{Address}
 use Rattle.codes.specs.declared.frame_count_bit.FrameCountBit.{FrameCountBit}
 use Rattle.codes.specs.declared.frame_count_bit.FrameCountBit.the-variants as fcb
-use Rattle.codes.specs.declared.function_code.FunctionCode.{FunctionCode}
 use Rattle.codes.specs.declared.function_code.FunctionCode.the-variants.{Request, Response}
 use Rattle.codes.specs.declared.part.Part.{Part}
 use Rattle.codes.specs.RequestTypes.{requestNumber}
 use Rattle.codes.specs.Responses.{stateNumber, statusNumber}
-use Rattle.codes.specs.declared.request_type.RequestType.{RequestType}
 use Rattle.codes.specs.declared.request_type.RequestType.the-variants.{SrdLow}
-use Rattle.codes.specs.declared.response.ResponseState.{ResponseState}
 use Rattle.codes.specs.declared.response.ResponseState.the-variants.{Slave}
 use Rattle.codes.specs.declared.response.ResponseStatus.{ResponseStatus}
 use Rattle.codes.specs.declared.response.ResponseStatus.the-variants as status

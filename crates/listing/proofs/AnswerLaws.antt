@@ -1,16 +1,14 @@
 -- Laws of the calls' answers: each way out of a call makes its promise; and a room that is always enough.
 -- Assumes nothing.
-use mathlib.Core.Bool.{Bool, true, false}
 use mathlib.Core.List.{List}
-use mathlib.Core.Path.{_≡_, refl, ap, _∙_}
+use mathlib.Core.Path.{_≡_, ap, _∙_}
 use Prim.Native.Nat.{ℕ, _+_, _-_, _≤_, _<_}
 use native.Mathlib.Omega.{arith}
 use native.Mathlib.Decide.{decLe}
-use lib.Dec.{ltb}
 use lib.ListN.{length, take}
 use borrow.Author.Tests.{lt-ltb, le-ltb, le-leb, lt-leb}
 use Rattle.codes.specs.Part.{shownPart}
-use Rattle.codes.specs.Refusals.{Outcome, gives, refused}
+use Rattle.codes.specs.Refusals.{gives}
 use Rattle.codes.specs.declared.refusal.Refusal.the-variants.{NoRoom, InputTooLong}
 use Rattle.telegram.specs.Begins.{Bytes}
 use Rattle.text.specs.Placed.{laid, Placed}

@@ -1,17 +1,17 @@
 -- Laws of a line: its pieces placed one behind the other, and how long it is.
 -- Assumes nothing.
-use mathlib.Core.Path.{_≡_, ap}
+use mathlib.Core.Path.{_≡_}
 use mathlib.Core.List.{List, _++_}
-use Prim.Native.Nat.{ℕ, suc, _+_, _*_, _≤_, _<_, _^_}
+use Prim.Native.Nat.{ℕ, _+_, _≤_, _<_}
 use native.Mathlib.Omega.{arith}
 use lib.ListN.{length, length-append}
 use Rattle.text.specs.Decimal.{decimalOf}
 use Rattle.text.specs.Placed.{Placed}
 use Rattle.text.specs.Quoted.{bytesOf}
-use Rattle.text.proofs.DecimalLaws.{decimal-length, small-length}
+use Rattle.text.proofs.DecimalLaws.{decimal-length}
 use Rattle.text.proofs.PlacedLaws.{then}
 use Rattle.listing.specs.declared.line.End.{End}
-use Rattle.listing.specs.declared.line.End.the-variants.{Done, Incomplete, Refused}
+use Rattle.listing.specs.declared.line.End.the-variants.{Refused}
 use Rattle.listing.specs.declared.line.Figure.{Figure}
 use Rattle.listing.specs.declared.line.Figure.the-variants.{Number, Absent}
 use Rattle.listing.specs.declared.line.Kind.{Kind}

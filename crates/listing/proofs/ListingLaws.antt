@@ -3,7 +3,7 @@
 -- Assumes nothing.
 use mathlib.Core.List.{List, [], _++_, append-assoc}
 use mathlib.Core.Path.{_≡_, refl, sym, ap, _∙_}
-use Prim.Native.Nat.{ℕ, zero, suc, _+_, _-_, _*_, _≤_, _<_}
+use Prim.Native.Nat.{ℕ, zero, suc, _+_, _-_, _*_, _≤_}
 use native.Mathlib.Omega.{arith}
 use lib.ListN.{length, drop, length-append, length-drop}
 use lib.Seq.{drop-drop}
@@ -11,7 +11,6 @@ use Rattle.telegram.specs.Begins.{Bytes}
 use Rattle.telegram.proofs.ByteLaws.{drop-bytes}
 use Rattle.text.specs.Decimal.{decimalOf}
 use Rattle.text.specs.Placed.{Placed}
-use Rattle.text.specs.Quoted.{bytesOf}
 use Rattle.text.proofs.PlacedLaws.{none, then}
 use Rattle.listing.specs.declared.line.End.{End}
 use Rattle.listing.specs.declared.line.End.the-variants.{Done}

@@ -2,8 +2,8 @@
 -- Assumes nothing.
 use mathlib.Core.Bool.{Bool, true, false}
 use mathlib.Core.List.{List}
-use mathlib.Core.Path.{_≡_, refl, sym, ap, _∙_}
-use Prim.Native.Nat.{ℕ, suc, _+_, _*_, _≤_, _<_}
+use mathlib.Core.Path.{_≡_, refl}
+use Prim.Native.Nat.{ℕ, _+_, _*_, _≤_, _<_}
 use native.Mathlib.Omega.{arith}
 use lib.Dec.{eqb}
 use lib.ListN.{length}
@@ -22,15 +22,13 @@ use Rattle.telegram.proofs.Answers.{Answered, confirmation, token-whole, sd1, s
 use Rattle.telegram.proofs.ReadingLaws.{reason, total-within, total-positive, total-small, pdu-ends, addresses-small, refused-numbered}
 use Rattle.text.proofs.DecimalLaws.{small-length}
 use Rattle.listing.specs.declared.line.End.the-variants.{Done, Incomplete, Refused}
-use Rattle.listing.specs.declared.line.Figure.{Figure}
-use Rattle.listing.specs.declared.line.Figure.the-variants.{Number, Absent}
 use Rattle.listing.specs.declared.line.Kind.the-variants.{Token, Data}
 use Rattle.listing.specs.declared.line.Line.{Line}
 use Rattle.listing.specs.declared.line.Said.{Said}
 use Rattle.listing.specs.declared.line.Said.the-variants as said
 use Rattle.listing.specs.Lines.{figureOf, lineOf, endOf, saidText}
 use Rattle.listing.specs.Telegrams.{codePlace, sapFigure, lineAt, saidRead, saidOf}
-use Rattle.listing.proofs.LineLaws.{line-length, figure-length, four-digits, Short, line-short, end-length}
+use Rattle.listing.proofs.LineLaws.{line-length, figure-length, four-digits, line-short, end-length}
 
 -- ---- the reason for what is said
 

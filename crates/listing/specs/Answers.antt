@@ -11,7 +11,7 @@ use Rattle.codes.specs.Refusals.{numberOf, Outcome, gives, refused}
 use Rattle.text.specs.Placed.{laid}
 use Rattle.listing.specs.declared.whole.Listed.{Listed}
 use Rattle.listing.specs.declared.whole.Listed.the-variants.{Text, Refused}
-use Rattle.listing.specs.Listing.{listingOf, outputOf}
+use Rattle.listing.specs.Listing.{listingOf}
 
 -- an answer as the length of the text, or document 01's number
 abbrev pub shownListed : Listed → Outcome ℕ

@@ -1,3 +1,4 @@
+// A line of the listing: what it says, and its bytes put into the buffer.
 ghost use mathlib.Core.Path.{_≡_};
 ghost use mathlib.Core.List.{_++_};
 ghost use Rattle.text.specs.Placed.{Placed};

@@ -1,3 +1,4 @@
+// What is said at a place of the input, by what the reader answers there.
 use crate::line::End;
 use crate::line::Figure;
 use crate::line::Kind;

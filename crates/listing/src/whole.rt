@@ -1,3 +1,4 @@
+// The whole text: counted first, then put to the front of the buffer.
 use crate::line::Said;
 use crate::line::put_said;
 use crate::said::said_at;

@@ -11,19 +11,21 @@ use native.Mathlib.Omega.{arith}
 use lib.Dec.{leb, lit≤}
 use lib.ListN.{length, drop, replicate, length-drop, length-take}
 use lib.Seq.{length-take-le, take-append-seam}
-use borrow.Author.Tests.{leb-true, leb-false, le-ltb, lt-ltb, ne-eqb}
+use borrow.Author.Tests.{leb-true, leb-false, le-ltb, lt-ltb}
 use Rattle.codes.proofs.PartLaws.{shown-fits}
 use Rattle.codes.specs.Part.{shownPart}
 use Rattle.codes.specs.Pick.{if}
 use Rattle.codes.specs.declared.address.Address.{Address}
 use Rattle.codes.specs.declared.part.Part.{Part}
 use Rattle.initiator.specs.Calls.{wrongOrder}
+use Rattle.link.proofs.Follows.{Same}
 use Rattle.link.specs.Coded.{Codec, anOrder, takenOf, putTurn, coded}
-use Rattle.link.specs.Follows.{Same}
 use Rattle.link.specs.Messages as said
 use Rattle.link.specs.Responder as message
 use Rattle.link.specs.Turns.{nothing, Turn, refusing}
+use Rattle.link_rules.specs.Rules.{wrongLength}
 use Rattle.link_telegrams.proofs.HeardLaws.{Within, RequestWithin, request-within}
+use Rattle.link_telegrams.specs.Headers.{okHeader, replyHeader}
 use Rattle.link_telegrams.specs.Heard.{requestHeardOf}
 use Rattle.link_telegrams.specs.declared.headers.Bit.{Bit}
 use Rattle.link_telegrams.specs.declared.headers.Bit.the-variants.{Low, High}
@@ -33,16 +35,32 @@ use Rattle.order_link.proofs.Codec.{codec, putOf, requestSeen}
 use Rattle.order_link.proofs.HeadCalls.{both}
 use Rattle.order_link.proofs.Views.{bitSeen, stateSeen, rowSeen, responderSeen, OfResponder, ofResponder}
 use Rattle.order_link.specs.OrderLink.{cabinetTurn}
-use Rattle.responder.proofs.CallLaws.{Linked, ok-written, reply-written}
+use Rattle.responder.proofs.RecordLaws as maker
 use Rattle.responder_row.proofs.RowLaws.{held-answer}
 use Rattle.responder.specs.Calls as call
 use Rattle.responder.specs.Calls.{hearOf, answerOf, restartOf}
 use Rattle.responder.specs.Records.{blankOf, madeOf}
-use Rattle.responder_row.specs.Rows.{heldOf, sameBit, wrongLength, holding, rowHears, rowAnswers, answersIn, orderOn, storedBit}
+use Rattle.responder_row.specs.Rows.{heldOf, sameBit, holding, rowHears, rowAnswers, answersIn, orderOn, storedBit}
 use Rattle.responder_row.specs.declared.row.Row.{Row}
 use Rattle.responder_row.specs.declared.row.RowState.{RowState}
 use Rattle.responder_row.specs.declared.row.RowState.the-variants.{Blank, Opened, Owes, Holds}
 use Rattle.responder.specs.declared.state.Responder.{Responder}
+use Rattle.telegram.specs.Picture.{lengthByte, telegramBytes}
+use Rattle.telegram.specs.declared.header.DataTelegramHeader.{DataTelegramHeader}
+use Rattle.telegram_tx.proofs.LengthLaws.{length-byte-is, telegram-short}
+use Rattle.telegram_tx.proofs.WritingLaws as writing
+
+-- A telegram that may be written is written, and is the front of the buffer that the answer names.
+cabinet-wrote :
+    (r : Responder) (row : Row) (h : DataTelegramHeader) (pdu s buf : List ℕ) → h .da .0 ≤ 127 → h .sa .0 ≤ 127 → lengthByte h pdu ≤ 249
+    → 255 ≤ length buf
+    → cabinetTurn s (call.writesOf r row h pdu buf)
+    ≡ record { next = record { own = r .own; peer = r .peer; row = row }; writes = some (telegramBytes h pdu); says = nothing }
+cabinet-wrote r row h pdu s buf da sa l room =
+    rw (
+      writing.sent h pdu (length buf) da sa l (le-trans (telegram-short h pdu l) room),
+      take-append-seam,
+    )
 
 -- is it the stored bit, by the state of the row
 abbrev again : RowState → Bit → Bool
@@ -83,9 +101,6 @@ module _ (own peer : Address) (own-small : own .0 ≤ 125) (peer-small : peer .0
   abbrev with : Row → Responder
   with row = record { own = peer; peer = own; row = row }
 
-  linked : (row : Row) → Linked (with row)
-  linked row = record { own-small = peer-small; peer-small = own-small; differ = λ e. differ (sym e) }
-
   -- a row in this state
   abbrev at : RowState → List ℕ → ℕ → Row
   at st a l = record { state = st; held = a; len = l }
@@ -95,13 +110,17 @@ module _ (own peer : Address) (own-small : own .0 ≤ 125) (peer-small : peer .0
         (row next : Row)
         → cabinetTurn s (call.writesOkOf (with row) next buf)
         ≡ record { next = with next; writes = some (putOf own peer said.ok); says = nothing }
-    ok-put row next = rw (ok-written (with row) next buf (linked row) wide, take-append-seam)
+    unfolding okHeader
+    ok-put row next =
+        cabinet-wrote (with row) next (okHeader peer own) [] s buf (le-trans own-small (lit≤ tt)) (le-trans peer-small (lit≤ tt)) (rw length-byte-is (omega arith)) wide
 
     reply-put :
         (row next : Row) (p : List ℕ) → length p ≤ 246
         → cabinetTurn s (call.writesReplyOf (with row) next p buf)
         ≡ record { next = with next; writes = some (putOf own peer (said.reply p)); says = nothing }
-    reply-put row next p short = rw (reply-written (with row) next buf (linked row) wide p short, take-append-seam)
+    unfolding replyHeader
+    reply-put row next p short =
+        cabinet-wrote (with row) next (replyHeader peer own) p s buf (le-trans own-small (lit≤ tt)) (le-trans peer-small (lit≤ tt)) (rw length-byte-is (omega arith)) wide
 
     module _ (a : List ℕ) (l : ℕ) (small : l ≤ 246) where
       -- "FCV with no stored bit: nothing. Same bit: … Other bit: …"
@@ -199,13 +218,8 @@ module _ (own peer : Address) (own-small : own .0 ≤ 125) (peer-small : peer .0
 
   -- a record that is made remembers nothing
   made-blank : madeOf peer own .responder ≡ blankOf peer own
-  unfolding madeOf
   made-blank =
-      rw (
-        le-ltb 125 (peer .0) peer-small,
-        le-ltb 125 (own .0) own-small,
-        ne-eqb (peer .0) (own .0) (λ e. differ (sym e)),
-      )
+      maker.made-blank peer own (record { own-small = peer-small; peer-small = own-small; differ = λ e. differ (sym e) })
 
   pub made-seen : responderSeen (madeOf peer own .responder) ≡ message.newRow
   made-seen = rw made-blank

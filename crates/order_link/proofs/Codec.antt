@@ -13,10 +13,9 @@ use Rattle.codes.specs.Part.{shownPart}
 use Rattle.codes.specs.Pick.{if}
 use Rattle.codes.specs.declared.address.Address.{Address}
 use Rattle.initiator.specs.Calls.{wrongOrder}
+use Rattle.link.proofs.Ignored.{ignores-other}
 use Rattle.link.specs.Coded.{Request, anOpening, anOrder, noRequest, Response, anOk, aReply, noResponse, Codec, Faithful}
-use Rattle.link.specs.Initiator.{Phase, closed, ready, asking, sending, hearIn}
 use Rattle.link.specs.Messages.{Bit, Message, opening, ok, order, reply, other}
-use Rattle.link.specs.Turns.{ignoring}
 use Rattle.link_telegrams.proofs.WrittenLaws.{opening-heard, order-heard, ok-heard, reply-heard, order-shown, reply-shown, opening-echoed, order-echoed, ok-echoed, reply-echoed}
 use Rattle.link_telegrams.specs.Headers.{openingHeader, orderHeader, okHeader, replyHeader}
 use Rattle.link_telegrams.specs.Heard.{readFrom, fromPeerOf, requestHeardOf, replyHeardOf}
@@ -108,13 +107,6 @@ module _ (a b : Address) where
   unfolding bearsBoth replyHeardOf fromPeerOf
   no-reply s e = rw (nothing-read b a (length s) (readOf s) (bears-either-way (length s) (readOf s) e))
 
--- An initiator ignores what is no message of the link.
-other-ignored : (n : ℕ) (p : Phase) → hearIn n p other ≡ ignoring (record { tries = n; phase = p })
-other-ignored n closed = refl
-other-ignored n (ready b) = refl
-other-ignored n (asking q k) = refl
-other-ignored n (sending b q k) = refl
-
 module _ (own peer : Address) (own-small : own .0 ≤ 125) (peer-small : peer .0 ≤ 125) (differ : own .0 ≡ peer .0 → ⊥) where
   seven-bits : {n : ℕ} → n ≤ 125 → n ≤ 127
   seven-bits h = le-trans h (lit≤ tt)
@@ -151,6 +143,6 @@ module _ (own peer : Address) (own-small : own .0 ≤ 125) (peer-small : peer .0
         orderEchoed = λ b q y. rw (order-echoed own peer (seven-bits own-small) (seven-bits peer-small) differ (bitPut b) q);
         okEchoed = rw (ok-echoed peer own (seven-bits peer-small) (seven-bits own-small) back);
         replyEchoed = λ p y. rw (reply-echoed peer own (seven-bits peer-small) (seven-bits own-small) back p);
-        strayToInitiator = λ i s e. rw (no-reply own peer s e) (other-ignored (i .tries) (i .phase));
+        strayToInitiator = λ i s e. rw (no-reply own peer s e) (ignores-other (i .tries) (i .phase));
         strayToResponder = λ r s e. rw (no-request own peer s e);
       }

@@ -9,22 +9,23 @@ use mathlib.Core.Path.{_≡_, refl, _∙_, ap, subst}
 use native.Mathlib.Nat.{add-suc, add-zero, le-trans, min-le-left}
 use native.Mathlib.Omega.{arith}
 use lib.Dec.{leb, lit≤}
-use lib.ListN.{length, replicate, length-append, length-drop, length-take}
+use lib.ListN.{length, drop, replicate, length-append, length-drop, length-take}
 use lib.Seq.{take-append-seam}
-use borrow.Author.Tests.{leb-true, leb-false, le-ltb, lt-ltb, ne-eqb}
+use borrow.Author.Tests.{leb-true, leb-false, le-ltb, lt-ltb}
 use Rattle.buffers.proofs.FrontLaws.{copied-fits}
 use Rattle.buffers.specs.Front.{copiedTo}
 use Rattle.codes.specs.Pick.{if}
 use Rattle.codes.specs.declared.address.Address.{Address}
 use Rattle.initiator.proofs.OrderLaws.{len-small, order-small, kept-order}
+use Rattle.initiator.proofs.RecordLaws as maker
 use Rattle.initiator.specs.Calls as call
 use Rattle.initiator.specs.Calls.{submitOf, silenceOf, hearOf, restartOf}
 use Rattle.initiator.specs.Records.{lenOf, orderOf, closedOf, madeOf}
 use Rattle.initiator.specs.declared.state.Initiator.{Initiator}
 use Rattle.initiator.specs.declared.state.Phase.{Phase}
 use Rattle.initiator.specs.declared.state.Phase.the-variants.{Closed, Ready, Opening, Order}
+use Rattle.link.proofs.Follows.{Same}
 use Rattle.link.specs.Coded.{Codec, responseOf, putTurn, coded}
-use Rattle.link.specs.Follows.{Same}
 use Rattle.link.specs.Initiator as message
 use Rattle.link.specs.Line.{Permitted}
 use Rattle.link.specs.Messages as said
@@ -43,16 +44,19 @@ use Rattle.telegram.specs.declared.header.DataTelegramHeader.{DataTelegramHeade
 use Rattle.telegram_tx.proofs.LengthLaws.{length-byte-is, telegram-short}
 use Rattle.telegram_tx.proofs.WritingLaws as writing
 
+-- a turn that wrote these bytes
+abbrev turnOf : Initiator → List ℕ → Turn Initiator (List ℕ) Outcome
+turnOf next w = record { next = next; writes = some w; says = nothing }
+
 -- A telegram that may be written is written, and is the front of the buffer that the answer names.
 head-wrote :
     (i next : Initiator) (h : DataTelegramHeader) (pdu s buf : List ℕ) → h .da .0 ≤ 127 → h .sa .0 ≤ 127 → lengthByte h pdu ≤ 249
     → 255 ≤ length buf
-    → headTurn s (call.writesOf i next h pdu buf) ≡ record { next = next; writes = some (telegramBytes h pdu); says = nothing }
+    → headTurn s (call.writesOf i next h pdu buf) ≡ turnOf next (telegramBytes h pdu)
 head-wrote i next h pdu s buf da sa l room =
-    rw (
-      writing.sent h pdu (length buf) da sa l (le-trans (telegram-short h pdu l) room),
-      take-append-seam,
-    )
+    rw (writing.sent h pdu (length buf) da sa l (le-trans (telegram-short h pdu l) room))
+    (ap (λ (w : List ℕ). turnOf next w)
+    (take-append-seam (telegramBytes h pdu) (drop (length (telegramBytes h pdu)) buf)))
 
 -- Two tests at once are one after the other.
 pub both : {A : Type 0} (t o : Bool) (y z : A) → if (t && o) y z ≡ if t (if o y z) z
@@ -210,15 +214,9 @@ module _ (own peer : Address) (own-small : own .0 ≤ 125) (peer-small : peer .0
   -- a record made with permitted tries is closed
   module _ (differ : own .0 ≡ peer .0 → ⊥) (n : ℕ) (tries : Permitted n) where
     made-closed : madeOf own peer n .initiator ≡ closedOf own peer n
-    unfolding madeOf
     made-closed =
-        rw (
-          le-ltb 125 (own .0) own-small,
-          le-ltb 125 (peer .0) peer-small,
-          ne-eqb (own .0) (peer .0) differ,
-          le-ltb n 1 (tries .0),
-          le-ltb 8 n (tries .1),
-        )
+        maker.made-closed own peer n (record { own-small = own-small; peer-small = peer-small; differ = differ })
+        (record { from-one = tries .0; to-eight = tries .1 })
 
     pub made-seen : initiatorSeen (madeOf own peer n .initiator) ≡ message.newInitiator n
     made-seen = rw made-closed

@@ -19,6 +19,7 @@ use Rattle.link.specs.Line.{Pair, State, Call, submits, silent, initiatorHears,
 use Rattle.link.specs.Live.{reportAt, Wide, Prompt, passes}
 use Rattle.link.specs.Safe.{entriesOf}
 use Rattle.link.specs.Turns.{confirmed, notSent}
+use Rattle.link_rules.specs.Rules.{wrongAddresses, wrongTries, wrongLength}
 use Rattle.link_telegrams.specs.Headers.{openingHeader, orderHeader, okHeader, replyHeader}
 use Rattle.link_telegrams.specs.Heard.{fromPeerOf, requestHeardOf, replyHeardOf}
 use Rattle.order_link.specs.OrderLink.{bearsBoth, orderLink}
@@ -145,7 +146,7 @@ pub record Runs : Type 0 where
   pub a-dead-line-sends-nothing : Ends deadLine (history (entry (0x02 ∷ []) [] (ended (notSent 2)) 2 0 ∷ []) [] false)
 
 pub runs : Runs
-unfolding sumOf checksumOf codeByte functionCodeOf requestTypeOf stateOf statusOf headerAt sapsAt contentOf frameOf lengthsOf dataOf tokenOf readOf headBytes coveredBytes lengthByte startBytes telegramBytes sendOf writeOf shownPart copiedTo submitOf silenceOf hearOf restartOf madeOf openingHeader orderHeader okHeader replyHeader fromPeerOf requestHeardOf replyHeardOf cabinet.hearOf cabinet.answerOf cabinetRecord.madeOf rowHears rowAnswers bearsBoth
+unfolding wrongAddresses wrongTries wrongLength sumOf checksumOf codeByte functionCodeOf requestTypeOf stateOf statusOf headerAt sapsAt contentOf frameOf lengthsOf dataOf tokenOf readOf headBytes coveredBytes lengthByte startBytes telegramBytes sendOf writeOf shownPart copiedTo submitOf silenceOf hearOf restartOf madeOf openingHeader orderHeader okHeader replyHeader fromPeerOf requestHeardOf replyHeardOf cabinet.hearOf cabinet.answerOf cabinetRecord.madeOf rowHears rowAnswers bearsBoth
 runs =
     record {
       an-order-is-confirmed =

@@ -6,9 +6,9 @@ use mathlib.Core.List.{List}
 use mathlib.Core.Path.{_≡_, refl}
 use Rattle.codes.specs.declared.address.Address.{Address}
 use Rattle.link.proofs.Coded.{coded-follower-demand}
+use Rattle.link.proofs.Follows.{Follows}
 use Rattle.link.specs.Coded.{coded, requestOf}
 use Rattle.link.specs.Demand.{Demand}
-use Rattle.link.specs.Follows.{Follows}
 use Rattle.link.specs.Messages as message
 use Rattle.link_telegrams.specs.Heard.{requestHeardOf}
 use Rattle.link_telegrams.specs.declared.heard.RequestHeard.{RequestHeard}

@@ -3,7 +3,7 @@
 -- Assumes nothing.
 use Prim.Native.Nat.{ℕ, _+_}
 use mathlib.Core.List.{List, [], _∷_}
-use mathlib.Core.Path.{refl, subst⁻¹}
+use mathlib.Core.Path.{refl}
 use lib.Dec.{ltb, lit≤}
 use Rattle.buffers.specs.Front.{copiedTo}
 use Rattle.codes.specs.Checksums.{sumOf, checksumOf}
@@ -19,13 +19,11 @@ use Rattle.initiator.specs.Records.{madeOf}
 use Rattle.initiator.specs.declared.state.Initiator.{Initiator}
 use Rattle.initiator.specs.declared.state.Phase.{Phase}
 use Rattle.initiator.specs.declared.state.Phase.the-variants.{Closed, Ready, Opening, Order}
-use Rattle.link.proofs.Kept.{IsConfirmed}
-use Rattle.link.proofs.Wrong.Tools.{two-tries, never-done, done-twice}
+use Rattle.link.proofs.Wrong.Tools.{two-tries, never-done, done-twice, not-confirmed}
 use Rattle.link.specs.Demand.{Demand}
-use Rattle.link.specs.History.{History}
 use Rattle.link.specs.Line.{Pair, State, Call, step, start, submits, silent, initiatorHears, responderHears, inFlight, stray}
-use Rattle.link.specs.Live.{reportAt, Confirmed, Wide, Prompt, passes, passed, opensFirst, orderAtOnce}
-use Rattle.link.specs.Safe.{entriesOf}
+use Rattle.link.specs.Live.{Wide, Prompt, passes, passed, opensFirst, orderAtOnce}
+use Rattle.link_rules.specs.Rules.{wrongAddresses, wrongTries, wrongLength, noStation}
 use Rattle.link_telegrams.specs.Headers.{openingHeader, orderHeader, okHeader, replyHeader}
 use Rattle.link_telegrams.specs.Heard.{fromPeerOf, requestHeardOf, replyHeardOf}
 use Rattle.link_telegrams.specs.declared.headers.Bit.the-variants.{High}
@@ -68,10 +66,7 @@ module _ (submitsSo : Initiator → List ℕ → List ℕ → head.Turn) (repeat
 abbrev hearing : (Initiator → List ℕ → List ℕ → head.Turn) → (Responder → List ℕ → List ℕ → cabinet.Turn) → Pair
 hearing headHears cabinetHears = changed submitOf silenceOf headHears cabinetHears
 
--- the addresses that a data telegram bears; 255 where there is none
-abbrev noStation : Address
-noStation = record { 0 = 255 }
-
+-- the addresses that a data telegram bears; no station's where there is none
 abbrev sourceIn : Reading → Address
 sourceIn (whole (Data d) n) = d .h .sa
 sourceIn (whole (Token t) n) = noStation
@@ -155,9 +150,6 @@ openingFrom9 = 0x10 ∷ 0x05 ∷ 0x09 ∷ 0x6C ∷ 0x7A ∷ 0x16 ∷ []
 abbrev confirmedBy : (P : Pair) → P .Room → P .Telegram → P .Telegram → P .Telegram → List (Call P)
 confirmedBy P r s t u = submits r (0x01 ∷ 0x03 ∷ []) ∷ responderHears r s ∷ initiatorHears r t ∷ initiatorHears r u ∷ []
 
-not-confirmed : (n : ℕ) (h : History) → (IsConfirmed (reportAt n (entriesOf h)) → ⊥) → Confirmed n h → ⊥
-not-confirmed n h bad e = bad (subst⁻¹ IsConfirmed (e .2) tt)
-
 pub record Refuted : Type 0 where
   -- the order is confirmed, and was never carried out
   pub takes-replies-from-any-station : Demand fromAny → ⊥
@@ -169,7 +161,7 @@ pub record Refuted : Type 0 where
   pub opening-written-as-high : Demand opensHigh → ⊥
 
 pub refuted : Refuted
-unfolding sumOf checksumOf codeByte functionCodeOf requestTypeOf stateOf statusOf headerAt sapsAt contentOf frameOf lengthsOf dataOf tokenOf readOf headBytes coveredBytes lengthByte startBytes telegramBytes sendOf writeOf shownPart copiedTo submitOf silenceOf hearOf madeOf openingHeader orderHeader okHeader replyHeader fromPeerOf requestHeardOf replyHeardOf cabinet.hearOf cabinetRecord.madeOf rowHears bearsBoth
+unfolding wrongAddresses wrongTries wrongLength sumOf checksumOf codeByte functionCodeOf requestTypeOf stateOf statusOf headerAt sapsAt contentOf frameOf lengthsOf dataOf tokenOf readOf headBytes coveredBytes lengthByte startBytes telegramBytes sendOf writeOf shownPart copiedTo submitOf silenceOf hearOf madeOf openingHeader orderHeader okHeader replyHeader fromPeerOf requestHeardOf replyHeardOf cabinet.hearOf cabinetRecord.madeOf rowHears bearsBoth
 refuted =
     record {
       takes-replies-from-any-station =

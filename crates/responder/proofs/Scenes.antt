@@ -8,6 +8,7 @@ use Rattle.codes.specs.Checksums.{sumOf, checksumOf}
 use Rattle.codes.specs.FunctionCodes.{codeByte, functionCodeOf}
 use Rattle.codes.specs.RequestTypes.{requestTypeOf}
 use Rattle.codes.specs.Responses.{stateOf, statusOf}
+use Rattle.link_rules.specs.Rules.{wrongAddresses, wrongLength}
 use Rattle.link_telegrams.specs.Headers.{okHeader, replyHeader}
 use Rattle.link_telegrams.specs.Heard.{fromPeerOf, requestHeardOf}
 use Rattle.responder.specs.Calls.{Turn, sent, handUp, nothing, refused, hearOf, answerOf, restartOf}
@@ -80,7 +81,7 @@ pub record Scene : Type 0 where
   pub no-room : hearOf made opening (replicate 254 0) .said ≡ refused 10
 
 pub scene : Scene
-unfolding sumOf checksumOf codeByte functionCodeOf requestTypeOf stateOf statusOf headerAt sapsAt contentOf frameOf lengthsOf dataOf tokenOf readOf headBytes coveredBytes lengthByte startBytes telegramBytes sendOf writeOf okHeader replyHeader fromPeerOf requestHeardOf rowHears rowAnswers hearOf answerOf
+unfolding wrongAddresses wrongLength sumOf checksumOf codeByte functionCodeOf requestTypeOf stateOf statusOf headerAt sapsAt contentOf frameOf lengthsOf dataOf tokenOf readOf headBytes coveredBytes lengthByte startBytes telegramBytes sendOf writeOf okHeader replyHeader fromPeerOf requestHeardOf rowHears rowAnswers hearOf answerOf
 scene =
     record {
       no-bit = refl;

@@ -1,8 +1,10 @@
 ghost use mathlib.Core.Path.{_≡_};
-ghost use Rattle.responder.specs.Records.{blankOf, noStation, shownMade, madeOf};
+ghost use Rattle.link_rules.specs.Rules.{noStation};
+ghost use Rattle.responder.specs.Records.{blankOf, shownMade, madeOf};
 use codes::Address;
 use codes::Answer;
 use codes::Refusal;
+use link_rules::wrong_addresses;
 use responder_row::Row;
 
 pub struct Responder {
@@ -37,13 +39,7 @@ impl Responder {
     pub fn new(own: Address, peer: Address) -> ResponderMade
         ensures { λ r. ⌜ shownMade r ≡ madeOf own peer ⌝ }
     {
-        if 125 < own.0 {
-            return not_made();
-        }
-        if 125 < peer.0 {
-            return not_made();
-        }
-        if own.0 == peer.0 {
+        if wrong_addresses(own, peer) {
             return not_made();
         }
         let responder = blank(own, peer);

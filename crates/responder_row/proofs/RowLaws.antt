@@ -1,30 +1,34 @@
 -- Laws of a row and of the reply that it holds.
 -- Assumes nothing.
 use Prim.Native.Nat.{ℕ, zero, suc, _<_, _≤_}
-use mathlib.Core.Bool.{Bool, true, false}
+use mathlib.Core.Bool.{true, false}
 use mathlib.Core.Path.{_≡_, refl, _∙_, sym, ap}
 use mathlib.Core.List.{List, [], _∷_}
 use native.Mathlib.Omega.{arith}
-use lib.Dec.{lit≤}
 use lib.ListN.{length, take, length-append, take-append-drop}
 use lib.Seq.{length-take-le, take-all, take-append-seam}
-use Rattle.codes.specs.Pick.{if}
-use Rattle.codes.specs.declared.part.Part.{Part}
+use borrow.Author.Tests.{lt-ltb, le-ltb}
 use Rattle.codes.specs.Refusals.{gives, refused, numberOf}
 use Rattle.codes.specs.declared.refusal.Answer.the-variants.{Refused}
 use Rattle.codes.specs.declared.refusal.Refusal.{Refusal}
+use Rattle.codes.specs.declared.part.Part.{Part}
+use Rattle.link_rules.specs.Rules.{wrongLength}
 use Rattle.link_telegrams.specs.declared.headers.Bit.{Bit}
-use Rattle.link_telegrams.specs.declared.heard.RequestHeard.{RequestHeard}
-use Rattle.link_telegrams.specs.declared.heard.RequestHeard.the-variants as heard
-use Rattle.responder_row.specs.Rows.{heldOf, storedBit, sameBit, wrongLength, dropping, holding, ignoring, againOn, otherOn, orderOn, rowHears, answersIn, rowAnswers, rowAfter, shownAnswered}
+use Rattle.responder_row.specs.Rows.{heldOf, dropping, holding, ignoring, againOn, otherOn, answersIn, rowAnswers, rowAfter, shownAnswered}
 use Rattle.responder_row.specs.declared.row.Row.{Row}
 use Rattle.responder_row.specs.declared.row.RowAction.the-variants as action
 use Rattle.responder_row.specs.declared.row.RowAnswered.{RowAnswered}
 use Rattle.responder_row.specs.declared.row.RowState.{RowState}
-use Rattle.responder_row.specs.declared.row.RowState.the-variants.{Blank, Opened, Owes, Holds}
+use Rattle.responder_row.specs.declared.row.RowState.the-variants.{Owes}
 use Rattle.responder_row.specs.declared.row.RowTurn.{RowTurn}
-use Rattle.responder_row.specs.declared.row.StoredBit.{StoredBit}
-use Rattle.responder_row.specs.declared.row.StoredBit.the-variants as stored
+
+-- an order under the other bit: ignored by its length, or handed up
+module _ (b : Bit) (q : Part) (row : Row) where
+  pub other-ignored : wrongLength (q .len) ≡ true → otherOn b q row ≡ ignoring row
+  other-ignored e = rw e
+
+  pub other-handed-up : wrongLength (q .len) ≡ false → otherOn b q row ≡ record { action = action.HandUp q; row = dropping row (Owes b) }
+  other-handed-up e = rw e
 
 -- A turn of the row that is right for the state that it is in.
 pub again-as : (row : Row) (state : RowState) (turn : RowTurn) → row .state ≡ state → turn ≡ againOn state row → turn ≡ againOn (row .state) row
@@ -41,6 +45,14 @@ module _ (row : Row) (state : RowState) (p : List ℕ) (e : row .state ≡ state
 
   pub answer-accepted : (next : Row) → gives next ≡ answersIn state row p → (gives next ≡ rowAnswers row p) × (next ≡ rowAfter (rowAnswers row p) row)
   answer-accepted next k = rw (← same, ← k) (refl, refl)
+
+-- The answer to an order, by its length.
+module _ (b : Bit) (row : Row) (p : List ℕ) where
+  pub answer-long : 246 < length p → answersIn (Owes b) row p ≡ refused 9
+  answer-long h = rw (lt-ltb _ _ h)
+
+  pub answer-fits : length p ≤ 246 → answersIn (Owes b) row p ≡ gives (holding b p row)
+  answer-fits h = rw (le-ltb _ _ h)
 
 -- The first n bytes, counted and taken again.
 taken-again : (n : ℕ) (l : List ℕ) → take (length (take n l)) l ≡ take n l
@@ -72,30 +84,3 @@ module _ (row : Row) where
 -- The answer that was accepted is the reply that is held.
 pub held-answer : (b : Bit) (p : List ℕ) (row : Row) → heldOf (holding b p row) ≡ p
 held-answer b p row = take-append-seam p _
-
--- A held reply stays within 246 bytes, whatever is heard and answered.
-module _ (row : Row) (short : length (heldOf row) ≤ 246) where
-  again-short : (state : RowState) → length (heldOf (againOn state row .row)) ≤ 246
-  again-short Blank = short
-  again-short Opened = short
-  again-short (Owes b) = short
-  again-short (Holds b) = short
-
-  picked : (t : Bool) (x y : RowTurn) → length (heldOf (x .row)) ≤ 246 → length (heldOf (y .row)) ≤ 246 → length (heldOf (if t x y .row)) ≤ 246
-  picked true x y p q = p
-  picked false x y p q = q
-
-  order-short : (s : StoredBit) (b : Bit) (q : Part) → length (heldOf (orderOn s b q row .row)) ≤ 246
-  order-short stored.Nothing b q = short
-  order-short (stored.Is c) b q =
-      picked (sameBit c b) (againOn (row .state) row) (otherOn b q row) (again-short (row .state))
-      (picked (wrongLength (q .len)) (ignoring row) (record { action = action.HandUp q; row = dropping row (Owes b) }) short (lit≤ tt))
-
-  pub hears-short : (h : RequestHeard) → length (heldOf (rowHears h row .row)) ≤ 246
-  unfolding rowHears
-  hears-short heard.Opening = lit≤ tt
-  hears-short (heard.Order b q) = order-short (storedBit (row .state)) b q
-  hears-short heard.Nothing = short
-
-pub answer-short : (b : Bit) (p : List ℕ) (row : Row) → length p ≤ 246 → length (heldOf (holding b p row)) ≤ 246
-answer-short b p row h = rw (held-answer b p row) h

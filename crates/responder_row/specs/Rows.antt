@@ -3,19 +3,19 @@
 use Prim.Native.Nat.{ℕ}
 use mathlib.Core.Bool.{Bool, true, false}
 use mathlib.Core.List.{List, _++_}
-use lib.Dec.{eqb, ltb}
+use lib.Dec.{ltb}
 use lib.ListN.{length, take, drop, replicate}
 use Rattle.codes.specs.Pick.{if}
 use Rattle.codes.specs.Refusals.{Outcome, gives, refused, numberOf}
 use Rattle.codes.specs.declared.part.Part.{Part}
 use Rattle.codes.specs.declared.refusal.Answer.{Answer}
 use Rattle.codes.specs.declared.refusal.Answer.the-variants as answer
+use Rattle.link_rules.specs.Rules.{wrongLength}
 use Rattle.link_telegrams.specs.declared.headers.Bit.{Bit}
 use Rattle.link_telegrams.specs.declared.headers.Bit.the-variants.{Low, High}
 use Rattle.link_telegrams.specs.declared.heard.RequestHeard.{RequestHeard}
 use Rattle.link_telegrams.specs.declared.heard.RequestHeard.the-variants as heard
 use Rattle.responder_row.specs.declared.row.Row.{Row}
-use Rattle.responder_row.specs.declared.row.RowAction.{RowAction}
 use Rattle.responder_row.specs.declared.row.RowAction.the-variants as action
 use Rattle.responder_row.specs.declared.row.RowAnswered.{RowAnswered}
 use Rattle.responder_row.specs.declared.row.RowState.{RowState}
@@ -27,9 +27,6 @@ use Rattle.responder_row.specs.declared.row.StoredBit.the-variants as st
 -- "Restart forgets all": a row that remembers nothing
 abbrev pub blankRow : Row
 blankRow = record { state = Blank; held = replicate 246 0; len = 0 }
-
-abbrev pub stateOf : Row → RowState
-stateOf row = row .state
 
 -- the held reply
 abbrev pub heldOf : Row → List ℕ
@@ -62,10 +59,6 @@ sameBit Low Low = true
 sameBit Low High = false
 sameBit High Low = false
 sameBit High High = true
-
--- "empty or above 246 bytes"
-abbrev pub wrongLength : ℕ → Bool
-wrongLength n = if (eqb n 0) true (ltb 246 n)
 
 -- the row in another state, with so many bytes of what it held
 abbrev pub inState : Row → RowState → ℕ → Row

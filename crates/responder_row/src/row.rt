@@ -1,11 +1,12 @@
 ghost use mathlib.Core.Path.{_≡_};
 ghost use Prim.Native.Nat.{_≤_};
 ghost use lib.ListN.{length};
-ghost use Rattle.responder_row.specs.Rows.{blankRow, stateOf, storedBit, owesReply, holdsReply, heldOf, sameBit, wrongLength, inState, holding, ignoring, againOn, otherOn, orderOn, rowHears, shownAnswered, answersIn, rowAnswers, rowAfter};
+ghost use Rattle.responder_row.specs.Rows.{blankRow, storedBit, owesReply, holdsReply, heldOf, sameBit, inState, holding, ignoring, againOn, otherOn, orderOn, rowHears, shownAnswered, rowAnswers, rowAfter};
 use buffers::copy_to_front;
 use codes::Answer;
 use codes::Part;
 use codes::Refusal;
+use link_rules::wrong_length;
 use link_telegrams::Bit;
 use link_telegrams::RequestHeard;
 
@@ -67,16 +68,6 @@ fn same_bit(stored: Bit, bit: Bit) -> bool
     }
 }
 
-// Whether an order has no bytes, or more than the link carries.
-fn wrong_length(len: usize) -> bool
-    ensures { λ r. ⌜ r ≡ wrongLength len ⌝ }
-{
-    if len == 0 {
-        return true;
-    }
-    246 < len
-}
-
 impl RowState {
     pub fn stored_bit(self) -> StoredBit
         ensures { λ r. ⌜ r ≡ storedBit self ⌝ }
@@ -132,7 +123,7 @@ impl Row {
     }
 
     pub fn state(self) -> RowState
-        ensures { λ r. ⌜ r ≡ stateOf self ⌝ }
+        ensures { λ r. ⌜ r ≡ self .state ⌝ }
     {
         self.state
     }

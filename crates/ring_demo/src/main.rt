@@ -4,13 +4,12 @@ use codes::Address;
 use libc::STDOUT_FILENO;
 use token_ring::Found;
 use token_ring::TokenRing;
-ghost use mathlib.Core.List.{[], _∷_};
 ghost use mathlib.Core.Path.{_≡_};
-ghost use Rattle.token_ring.specs.Samples.{_to_, after, seven};
+ghost use Rattle.ring_demo.specs.Played.{played, playedOn};
 
 // Own 7: 9-2, 2-5, 5-9, 9-2.
 fn discovered() -> TokenRing
-    ensures { λ r. ⌜ r ≡ seven ⌝ }
+    ensures { λ r. ⌜ r ≡ played ⌝ }
 {
     let made = TokenRing::new(Address(7));
     let mut ring = made.ring;
@@ -20,9 +19,10 @@ fn discovered() -> TokenRing
     ring.witness_token_pass(Address(9), Address(2))
 }
 
-// The same passes once more.
+// Then 2-5, 5-9, 9-2.
 fn verified(mut ring: TokenRing) -> TokenRing
-    ensures { λ r. ⌜ r ≡ after (2 to 5 ∷ 5 to 9 ∷ 9 to 2 ∷ []) ring ⌝ }
+    requires { ⌜ ring ≡ played ⌝ }
+    ensures { λ r. ⌜ r ≡ playedOn ⌝ }
 {
     ring = ring.witness_token_pass(Address(2), Address(5));
     ring = ring.witness_token_pass(Address(5), Address(9));
@@ -30,7 +30,7 @@ fn verified(mut ring: TokenRing) -> TokenRing
 }
 
 fn check_neighbours(ring: TokenRing)
-    requires { ⌜ ring ≡ seven ⌝ }
+    requires { ⌜ ring ≡ played ⌝ }
 {
     let next = ring.next_station();
     check::expect(next.0 == 9);

@@ -1,7 +1,7 @@
 -- No second outcome fits a promise of this crate: answers that are shown alike are the same. What tells refusals apart is
 -- that their numbers differ, which the laws of `numberOf` give.
 -- Assumes nothing.
-use mathlib.Core.Path.{_≡_, refl, sym, ap, _∙_}
+use mathlib.Core.Path.{_≡_, ap}
 use Prim.Native.Nat.{ℕ}
 use native.Mathlib.Omega.{arith}
 use Rattle.codes.proofs.NumberLaws.{number-injective}
@@ -9,8 +9,8 @@ use Rattle.settings.specs.declared.settings.SettingsRead.{SettingsRead}
 use Rattle.settings.specs.declared.settings.SettingsRead.the-variants as read
 use Rattle.settings.specs.declared.settings.SettingsWritten.{SettingsWritten}
 use Rattle.settings.specs.declared.settings.SettingsWritten.the-variants as write
-use Rattle.settings.specs.Reading.{ReadAnswer, settings, refused, shownRead}
-use Rattle.settings.specs.Writing.{WriteAnswer, written, refused as refusedWrite, shownWritten}
+use Rattle.settings.specs.Reading.{shownRead}
+use Rattle.settings.specs.Writing.{shownWritten}
 
 pub read-one : (r s : SettingsRead) → shownRead r ≡ shownRead s → r ≡ s
 read-one (read.Read a) (read.Read b) e =

@@ -6,7 +6,8 @@ use Rattle.text.specs.Decimal.{digits, decimalOf, valueFrom, isDigit, digitsIn,
 use Rattle.text.specs.Quoted.{bytesOf}
 use Rattle.settings.specs.Lines.{lineOf, lineAt}
 use Rattle.settings.specs.Reading.{settings, refused, formOf, checkedOf, readOf}
-use Rattle.settings.specs.Rules.{addressesOf, triesOf, ruleOf}
+use Rattle.link_rules.specs.Rules.{wrongAddresses, wrongTries}
+use Rattle.settings.specs.Rules.{ruleOf}
 use Rattle.settings.specs.Text.{textOf}
 use Rattle.settings.specs.Writing.{written, refused as refusedWrite, writeOf, leftBy}
 
@@ -14,7 +15,7 @@ use Rattle.settings.specs.Writing.{written, refused as refusedWrite, wri
 pub read-samples : (readOf (bytesOf "own=2\npeer=5\ntries=2\n") ≡ settings 2 5 2)
     × (readOf (bytesOf "own=0\npeer=125\ntries=8\n") ≡ settings 0 125 8)
     × (readOf (bytesOf "own=10\npeer=100\ntries=1\n") ≡ settings 10 100 1)
-unfolding digits decimalOf valueFrom isDigit digitsIn same isDecimal numberAt begins lineAt formOf checkedOf addressesOf triesOf ruleOf readOf
+unfolding digits decimalOf valueFrom isDigit digitsIn same isDecimal numberAt begins lineAt formOf checkedOf wrongAddresses wrongTries ruleOf readOf
 read-samples = (refl, refl, refl)
 
 -- 20: a leading zero, a line feed missing or one too many, lines exchanged or missing, a number above 255, another end of
@@ -32,7 +33,7 @@ pub form-samples : (readOf (bytesOf "own=02\npeer=5\ntries=2\n") ≡ refused 20)
     × (readOf (bytesOf "own= 2\npeer=5\ntries=2\n") ≡ refused 20)
     × (readOf (bytesOf "own=\npeer=5\ntries=2\n") ≡ refused 20)
     × (readOf (bytesOf "") ≡ refused 20)
-unfolding digits decimalOf valueFrom isDigit digitsIn same isDecimal numberAt begins lineAt formOf checkedOf addressesOf triesOf ruleOf readOf
+unfolding digits decimalOf valueFrom isDigit digitsIn same isDecimal numberAt begins lineAt formOf checkedOf wrongAddresses wrongTries ruleOf readOf
 form-samples = (refl, refl, refl, refl, refl, refl, refl, refl, refl, refl, refl, refl, refl)
 
 -- 18 before 19, and both behind 20; an old program given the second form of the text
@@ -44,7 +45,7 @@ pub rule-samples : (readOf (bytesOf "own=126\npeer=5\ntries=2\n") ≡ refused 18
     × (readOf (bytesOf "own=2\npeer=5\ntries=9\n") ≡ refused 19)
     × (readOf (bytesOf "own=126\npeer=5\ntries=09\n") ≡ refused 20)
     × (readOf (bytesOf "form=2\nown=2\npeer=5\ntries=2\nprio=low\n") ≡ refused 20)
-unfolding digits decimalOf valueFrom isDigit digitsIn same isDecimal numberAt begins lineAt formOf checkedOf addressesOf triesOf ruleOf readOf
+unfolding digits decimalOf valueFrom isDigit digitsIn same isDecimal numberAt begins lineAt formOf checkedOf wrongAddresses wrongTries ruleOf readOf
 rule-samples = (refl, refl, refl, refl, refl, refl, refl, refl)
 
 -- written: 21 bytes, and what stood behind them stays; 18, 19, 10 in this order
@@ -55,5 +56,5 @@ pub write-samples : (textOf 2 5 2 ≡ bytesOf "own=2\npeer=5\ntries=2\n")
     × (writeOf 126 5 9 0 ≡ refusedWrite 18)
     × (writeOf 2 2 2 26 ≡ refusedWrite 18)
     × (writeOf 2 5 9 0 ≡ refusedWrite 19)
-unfolding digits decimalOf lineOf textOf addressesOf triesOf ruleOf writeOf
+unfolding digits decimalOf lineOf textOf wrongAddresses wrongTries ruleOf writeOf
 write-samples = (refl, refl, refl, refl, refl, refl, refl)

@@ -4,8 +4,8 @@
 use mathlib.Core.Logic.{_↔_}
 use mathlib.Core.Path.{_≡_, refl, sym, ap, _∙_}
 use mathlib.Core.Bool.{Bool, true, false}
-use mathlib.Core.List.{List, [], _∷_, _++_, append-assoc, append-nil}
-use Prim.Native.Nat.{ℕ, _+_, _≤_, _<_}
+use mathlib.Core.List.{List, [], _++_, append-assoc, append-nil}
+use Prim.Native.Nat.{ℕ, _+_, _≤_}
 use native.Mathlib.Omega.{arith}
 use borrow.Author.Tests.{eqb-true, leb-true, le-leb}
 use lib.Dec.{eqb, leb, ltb}
@@ -18,23 +18,15 @@ use Rattle.settings.specs.declared.line.Line.{Line}
 use Rattle.settings.specs.declared.line.Line.the-variants as line
 use Rattle.settings.specs.declared.settings.Form.{Form}
 use Rattle.settings.specs.declared.settings.Form.the-variants.{Numbers, Nothing}
-use Rattle.settings.specs.declared.settings.SettingsWritten.{SettingsWritten}
 use Rattle.settings.specs.declared.settings.SettingsWritten.the-variants as answer
 use Rattle.settings.specs.Lines.{own=, peer=, tries=, lineOf, lineAt}
-use Rattle.settings.specs.Reading.{ReadAnswer, settings, refused, afterTries, afterPeer, afterOwn, formOf, checkedOf, ofForm, readOf}
-use Rattle.settings.specs.Rules.{addressesOf, triesOf, ruleOf}
-use Rattle.settings.specs.Text.{textOf}
-use Rattle.settings.specs.Writing.{WriteAnswer, written, refused as refusedWrite, writeOf, leftBy, Wrote}
-use Rattle.settings.proofs.FormLaws.{three-lines, read-form}
+use Rattle.settings.specs.Reading.{settings, refused, afterTries, afterPeer, afterOwn, formOf, checkedOf, ofForm, readOf}
+use Rattle.settings.specs.Rules.{ruleOf, Allowed}
+use Rattle.settings.specs.Text.{textOf, Pictured}
+use Rattle.settings.specs.Writing.{written, refused as refusedWrite, writeOf, leftBy, Wrote}
+use Rattle.settings.proofs.ReadingLaws.{three-lines, read-form}
 use Rattle.settings.proofs.LineLaws.{LineRead, line-read, line-written}
-use Rattle.settings.proofs.RuleLaws.{Linked, linked, linked-rule}
-
--- the text is the picture of three numbers from 0 to 255
-pub record Pictured (text : List ℕ) (own peer tries : ℕ) : Type 0 where
-  pub picture : text ≡ textOf own peer tries
-  pub own-byte : own ≤ 255
-  pub peer-byte : peer ≤ 255
-  pub tries-byte : tries ≤ 255
+use Rattle.settings.proofs.RuleLaws.{rule-allowed, allowed-rule, rule-is}
 
 -- ---- the form
 
@@ -114,45 +106,37 @@ pub read-pictured : (text : List ℕ) (own peer tries : ℕ) → Pictured text o
 read-pictured text own peer tries k = read-form text (pictured-form text own peer tries k)
 
 -- settings that a link can have fit their bytes
-linked-pictured : (own peer tries : ℕ) → Linked own peer tries → Pictured (textOf own peer tries) own peer tries
-linked-pictured own peer tries k = record { picture = refl; own-byte = omega arith; peer-byte = omega arith; tries-byte = omega arith }
+allowed-pictured : (own peer tries : ℕ) → Allowed own peer tries → Pictured (textOf own peer tries) own peer tries
+allowed-pictured own peer tries k = record {
+  picture = refl;
+  own-byte = omega (arith, k .addresses .own-small);
+  peer-byte = omega (arith, k .addresses .peer-small);
+  tries-byte = omega (arith, k .permitted .to-eight);
+}
 
 -- settings are read just from the picture of settings that a link can have
-pub reads-settings : (text : List ℕ) (own peer tries : ℕ) → readOf text ≡ settings own peer tries ↔ Linked own peer tries × (text ≡ textOf own peer tries)
+pub reads-settings : (text : List ℕ) (own peer tries : ℕ) → readOf text ≡ settings own peer tries ↔ Allowed own peer tries × (text ≡ textOf own peer tries)
 unfolding readOf checkedOf
 reads-settings text own peer tries = (forth (formOf text) refl, back)
   where
     ruled : (o p t : ℕ) → formOf text ≡ Numbers o p t → (s : Bool) → eqb (ruleOf o p t) 0 ≡ s → if s (settings o p t) (refused (ruleOf o p t)) ≡ settings own peer tries
-        → Linked own peer tries × (text ≡ textOf own peer tries)
+        → Allowed own peer tries × (text ≡ textOf own peer tries)
     ruled o p t f true r e =
         let o-is : o ≡ own = cc in
         let p-is : p ≡ peer = cc in
         let t-is : t ≡ tries = cc in
-        rw (← o-is, ← p-is, ← t-is) (linked o p t (eqb-true (ruleOf o p t) 0 r), form-pictured text o p t f .picture)
+        rw (← o-is, ← p-is, ← t-is) (rule-allowed o p t (eqb-true (ruleOf o p t) 0 r), form-pictured text o p t f .picture)
     ruled o p t f false r e = let z : _≡_ {A = ℕ} 0 1 = cc in absurd (omega arith)
 
-    forth : (form : Form) → formOf text ≡ form → ofForm form ≡ settings own peer tries → Linked own peer tries × (text ≡ textOf own peer tries)
+    forth : (form : Form) → formOf text ≡ form → ofForm form ≡ settings own peer tries → Allowed own peer tries × (text ≡ textOf own peer tries)
     forth (Numbers o p t) f e = ruled o p t f (eqb (ruleOf o p t) 0) refl e
     forth Nothing f e = let z : _≡_ {A = ℕ} 0 1 = cc in absurd (omega arith)
 
-    back : Linked own peer tries × (text ≡ textOf own peer tries) → readOf text ≡ settings own peer tries
+    back : Allowed own peer tries × (text ≡ textOf own peer tries) → readOf text ≡ settings own peer tries
     back k =
         ap readOf (k .1)
-        ∙ read-pictured (textOf own peer tries) own peer tries (linked-pictured own peer tries (k .0))
-        ∙ rw (linked-rule own peer tries (k .0))
-
--- the rules give no 20
-rule-is : (own peer tries : ℕ) → ruleOf own peer tries ≡ 20 → ⊥
-unfolding ruleOf addressesOf triesOf
-rule-is own peer tries e = go (ltb 125 own) (ltb 125 peer) (eqb own peer) (ltb tries 1) (ltb 8 tries) e
-  where
-    go : (a b s f t : Bool) → _≡_ {A = ℕ} (if a 18 (if b 18 (if s 18 (if f 19 (if t 19 0))))) 20 → ⊥
-    go true b s f t e = omega arith
-    go false true s f t e = omega arith
-    go false false true f t e = omega arith
-    go false false false true t e = omega arith
-    go false false false false true e = omega arith
-    go false false false false false e = omega arith
+        ∙ read-pictured (textOf own peer tries) own peer tries (allowed-pictured own peer tries (k .0))
+        ∙ rw (allowed-rule own peer tries (k .0))
 
 -- 20 is the answer just where the text is no picture of three numbers from 0 to 255
 pub reads-no-form : (text : List ℕ) → readOf text ≡ refused 20 ↔ ((own peer tries : ℕ) → Pictured text own peer tries → ⊥)
@@ -173,10 +157,10 @@ reads-no-form text = (λ e own peer tries k. other own peer tries k e, λ none. 
 -- ---- reading what was written
 
 -- the text was written: the rules refuse nothing, the length is the text's, and there is room for it
-pub record WrittenBy (own peer tries room len : ℕ) : Type 0 where
-  pub rules : ruleOf own peer tries ≡ 0
-  pub text-long : length (textOf own peer tries) ≡ len
-  pub fits : length (textOf own peer tries) ≤ room
+record WrittenBy (own peer tries room len : ℕ) : Type 0 where
+  rules : ruleOf own peer tries ≡ 0
+  text-long : length (textOf own peer tries) ≡ len
+  fits : length (textOf own peer tries) ≤ room
 
 written-by : (own peer tries room len : ℕ) → writeOf own peer tries room ≡ written len → WrittenBy own peer tries room len
 unfolding writeOf
@@ -201,7 +185,7 @@ written-then-read own peer tries before after len w =
     let k = written-by own peer tries (length before) len wrote in
     let left : after ≡ laid before 0 (textOf own peer tries) = w .buffer ∙ ap (leftBy before (textOf own peer tries)) wrote in
     let front : take len after ≡ textOf own peer tries = rw (← k .text-long, left) (laid-front before (textOf own peer tries) (k .fits)) in
-    reads-settings (take len after) own peer tries .1 (linked own peer tries (k .rules), front)
+    reads-settings (take len after) own peer tries .1 (rule-allowed own peer tries (k .rules), front)
 
 -- the texts that are read are just those that are written: a text is read as settings exactly where writing them into a
 -- buffer of its length writes all of it and leaves just the text
@@ -211,12 +195,12 @@ pub read-as-written : (text before : List ℕ) (own peer tries : ℕ) → length
 unfolding writeOf
 read-as-written text before own peer tries same = (λ e. forth (reads-settings text own peer tries .0 e), back)
   where
-    forth : Linked own peer tries × (text ≡ textOf own peer tries)
+    forth : Allowed own peer tries × (text ≡ textOf own peer tries)
         → (writeOf own peer tries (length before) ≡ written (length text)) × (leftBy before (textOf own peer tries) (writeOf own peer tries (length before)) ≡ text)
     forth k =
         let long : length (textOf own peer tries) ≡ length before = ap length (sym (k .1)) ∙ sym same in
         let all : writeOf own peer tries (length before) ≡ written (length text) =
-        rw (linked-rule own peer tries (k .0), le-leb (length (textOf own peer tries)) (length before) (omega arith), ← k .1) in
+        rw (allowed-rule own peer tries (k .0), le-leb (length (textOf own peer tries)) (length before) (omega arith), ← k .1) in
         (all, ap (leftBy before (textOf own peer tries)) all ∙ laid-whole before (textOf own peer tries) long ∙ sym (k .1))
 
     back : (writeOf own peer tries (length before) ≡ written (length text)) × (leftBy before (textOf own peer tries) (writeOf own peer tries (length before)) ≡ text)
@@ -225,4 +209,4 @@ read-as-written text before own peer tries same = (λ e. forth (reads-settings t
         let w = written-by own peer tries (length before) (length text) (k .0) in
         let left : text ≡ laid before 0 (textOf own peer tries) = sym (k .1) ∙ ap (leftBy before (textOf own peer tries)) (k .0) in
         reads-settings text own peer tries .1
-        (linked own peer tries (w .rules), left ∙ laid-whole before (textOf own peer tries) (w .text-long ∙ sym same))
+        (rule-allowed own peer tries (w .rules), left ∙ laid-whole before (textOf own peer tries) (w .text-long ∙ sym same))

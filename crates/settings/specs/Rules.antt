@@ -1,32 +1,14 @@
--- Document 01, "Refusal numbers": what a link asks of its addresses and tries, in the order 18, 19.
+-- Document 01, "Orders: … Settings 20, 18, 19": what the rules of a link answer.
 -- Assumes nothing.
-use mathlib.Core.Path.{_≡_}
-use mathlib.Core.Bool.{Bool, true, false}
 use Prim.Native.Nat.{ℕ}
-use lib.Dec.{eqb, ltb}
-use Rattle.codes.specs.declared.refusal.Answer.{Answer}
-use Rattle.codes.specs.declared.refusal.Answer.the-variants.{Done, Refused}
 use Rattle.codes.specs.Pick.{if}
-use Rattle.codes.specs.Refusals.{shown}
-
--- 18 where a link address is above 125 or the two are equal, else the number that comes next
-unfoldable pub addressesOf : ℕ → ℕ → ℕ → ℕ
-addressesOf own peer next = if (ltb 125 own) 18 (if (ltb 125 peer) 18 (if (eqb own peer) 18 next))
-
--- 19 where the tries are outside 1 to 8, else the number that comes next
-unfoldable pub triesOf : ℕ → ℕ → ℕ
-triesOf tries next = if (ltb tries 1) 19 (if (ltb 8 tries) 19 next)
+use Rattle.link_rules.specs.Rules.{wrongAddresses, wrongTries, Linked, Permitted}
 
 -- the number of the refusal, 18 before 19; 0 where there is none
 unfoldable pub ruleOf : ℕ → ℕ → ℕ → ℕ
-ruleOf own peer tries = addressesOf own peer (triesOf tries 0)
+ruleOf own peer tries = if (wrongAddresses own peer) 18 (if (wrongTries tries) 19 0)
 
--- whether an answer is no refusal
-abbrev pub isDone : Answer → Bool
-isDone Done = true
-isDone (Refused refusal) = false
-
--- the answer of a check by these rules
-pub record Ruled (own peer tries : ℕ) (answer : Answer) : Type 0 where
-  pub number : shown answer ≡ ruleOf own peer tries
-  pub done : isDone answer ≡ eqb (ruleOf own peer tries) 0
+-- the same as a condition: settings that a link can have
+pub record Allowed (own peer tries : ℕ) : Type 0 where
+  pub addresses : Linked own peer
+  pub permitted : Permitted tries

@@ -1,6 +1,6 @@
+// A line of the text, `name=number` and a line feed.
 use text::Number;
 ghost use mathlib.Core.Path.{_≡_};
-ghost use lib.ListN.{length, drop};
 ghost use Rattle.settings.specs.Lines.{lineOf, lineAt};
 ghost use Rattle.text.specs.Placed.{Placed};
 

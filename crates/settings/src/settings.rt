@@ -1,14 +1,18 @@
+// The settings of a link, read from their text and written as it.
 use crate::line::Line;
 use crate::line::get_line;
 use crate::line::put_line;
 use codes::Address;
 use codes::Answer;
 use codes::Refusal;
+use link_rules::wrong_addresses;
+use link_rules::wrong_tries;
 ghost use mathlib.Core.Path.{_≡_};
 ghost use lib.ListN.{length};
 ghost use Rattle.text.specs.Placed.{Placed};
 ghost use Rattle.settings.specs.Text.{textOf};
-ghost use Rattle.settings.specs.Rules.{Ruled};
+ghost use Rattle.codes.specs.Refusals.{shown};
+ghost use Rattle.settings.specs.Rules.{ruleOf};
 ghost use Rattle.settings.specs.Reading.{formOf, checkedOf, shownRead, readOf};
 ghost use Rattle.settings.specs.Writing.{Wrote};
 
@@ -72,21 +76,12 @@ fn form_of(text: &[u8]) -> Form
 
 // What a link asks of its addresses and tries, whatever the text.
 fn check(own: u8, peer: u8, tries: u8) -> Answer
-    ensures { λ r. ⌜ Ruled own peer tries r ⌝ }
+    ensures { λ r. ⌜ shown r ≡ ruleOf own peer tries ⌝ }
 {
-    if own > 125 {
+    if wrong_addresses(Address(own), Address(peer)) {
         return Answer::Refused(Refusal::LinkAddresses);
     }
-    if peer > 125 {
-        return Answer::Refused(Refusal::LinkAddresses);
-    }
-    if own == peer {
-        return Answer::Refused(Refusal::LinkAddresses);
-    }
-    if tries < 1 {
-        return Answer::Refused(Refusal::Tries);
-    }
-    if tries > 8 {
+    if wrong_tries(tries) {
         return Answer::Refused(Refusal::Tries);
     }
     Answer::Done

@@ -8,11 +8,11 @@ use native.Mathlib.Nat.{add-zero, add-assoc, le-refl}
 use native.Mathlib.Omega.{arith}
 use lib.ListN.{length, take, drop, length-take, length-append, take-append-drop, List·getD-append}
 use lib.Seq.{ext-getD, getD-take}
+use Rattle.codes.proofs.PartLaws.{part-length, part-at}
 use Rattle.codes.specs.FunctionCodes.{digit}
 use Rattle.codes.specs.Part.{part, byteAt}
 use Rattle.codes.specs.declared.function_code.FunctionCode.{FunctionCode}
 use Rattle.telegram.proofs.Answers.{Content, sap-missing, sum-differs, end-differs, content-whole, Frame, under-total, code-unknown, code-known, Answered, nothing, confirmation, token-short, token-whole, unknown, data-short, lengths-differ, length-small, sd1, sd2, sd3, content-answered, answer-content, answer-is}
-use Rattle.telegram.proofs.ByteLaws.{part-length, part-at}
 use Rattle.telegram.proofs.ReadingLaws.{reason, total-within}
 use Rattle.telegram.proofs.TopBitLaws.{digit-small}
 use Rattle.telegram.specs.Reading.{Reading, whole, incomplete, refused, top, sapAt, headerAt, sapsAt, contentOf, readOf}

@@ -4,11 +4,12 @@ use Prim.Native.Nat.{ℕ, suc, _+_, _<_, _≤_}
 use mathlib.Core.Bool.{Bool, true, false, not}
 use mathlib.Core.List.{List}
 use mathlib.Core.Logic.{_⊎_, inl, inr, ⊎-elim}
-use mathlib.Core.Path.{_≡_, refl}
+use mathlib.Core.Path.{_≡_, refl, _∙_}
 use native.Mathlib.Omega.{arith}
 use lib.Dec.{eqb, ltb}
 use lib.ListN.{length}
 use borrow.Author.Tests.{ltb-true, ltb-false, eqb-true, eqb-false, not-true, not-false, lt-ltb, le-ltb, eq-eqb, ne-eqb}
+use Rattle.codes.proofs.PickLaws.{picked}
 use Rattle.codes.specs.Checksums.{checksumOf}
 use Rattle.codes.specs.FunctionCodes.{functionCodeOf}
 use Rattle.codes.specs.Part.{part, byteAt}
@@ -24,26 +25,73 @@ use Rattle.telegram.specs.declared.kinds.Telegram.the-variants.{Data, To
 abbrev pub DataStart : ℕ → Type 0
 DataStart b = (b ≡ SD1) ⊎ ((b ≡ SD2) ⊎ (b ≡ SD3))
 
-no-zero : {n k : ℕ} → suc k ≤ n → n ≡ 0 → ⊥
-no-zero h e = omega arith
+-- What each step of reading answers where its tests are decided, from the first byte on.
+module _ (s : List ℕ) where
+  pub nothing-read : length s ≡ 0 → readOf s ≡ incomplete
+  unfolding readOf
+  nothing-read h = rw (eq-eqb _ _ h)
 
-pub data-read : (s : List ℕ) → (length s ≡ 0 → ⊥) → DataStart (byteAt s 0) → readOf s ≡ dataOf s
-unfolding readOf
-data-read s h (inl e) = rw (ne-eqb _ _ h, e)
-data-read s h (inr (inl e)) = rw (ne-eqb _ _ h, e)
-data-read s h (inr (inr e)) = rw (ne-eqb _ _ h, e)
+  pub confirmation-read : (length s ≡ 0 → ⊥) → byteAt s 0 ≡ SC → readOf s ≡ whole ShortConfirmation 1
+  unfolding readOf
+  confirmation-read h e = rw (ne-eqb _ _ h, e)
 
-pub unknown-read : (s : List ℕ) → (length s ≡ 0 → ⊥) → (byteAt s 0 ≡ SC → ⊥) → (byteAt s 0 ≡ SD4 → ⊥) → (DataStart (byteAt s 0) → ⊥) → readOf s ≡ refused 1
-unfolding readOf
-unknown-read s h a b d =
-    rw (
-      ne-eqb _ _ h,
-      ne-eqb _ _ a,
-      ne-eqb _ _ b,
-      ne-eqb _ _ (λ e. d (inl e)),
-      ne-eqb _ _ (λ e. d (inr (inl e))),
-      ne-eqb _ _ (λ e. d (inr (inr e))),
-    )
+  pub token-start : (length s ≡ 0 → ⊥) → byteAt s 0 ≡ SD4 → readOf s ≡ tokenOf s
+  unfolding readOf
+  token-start h e = rw (ne-eqb _ _ h, e)
+
+  pub data-start : (length s ≡ 0 → ⊥) → DataStart (byteAt s 0) → readOf s ≡ dataOf s
+  unfolding readOf
+  data-start h (inl e) = rw (ne-eqb _ _ h, e)
+  data-start h (inr (inl e)) = rw (ne-eqb _ _ h, e)
+  data-start h (inr (inr e)) = rw (ne-eqb _ _ h, e)
+
+  pub unknown-read : (length s ≡ 0 → ⊥) → (byteAt s 0 ≡ SC → ⊥) → (byteAt s 0 ≡ SD4 → ⊥) → (DataStart (byteAt s 0) → ⊥) → readOf s ≡ refused 1
+  unfolding readOf
+  unknown-read h a b d =
+      rw (
+        ne-eqb _ _ h,
+        ne-eqb _ _ a,
+        ne-eqb _ _ b,
+        ne-eqb _ _ (λ e. d (inl e)),
+        ne-eqb _ _ (λ e. d (inr (inl e))),
+        ne-eqb _ _ (λ e. d (inr (inr e))),
+      )
+
+  pub token-under : length s < 3 → tokenOf s ≡ incomplete
+  unfolding tokenOf
+  token-under h = rw (lt-ltb _ _ h)
+
+  pub token-read : 3 ≤ length s → tokenOf s ≡ whole (Token (tokenAt s)) 3
+  unfolding tokenOf
+  token-read h = rw (le-ltb _ _ h)
+
+  pub data-under : length s < 6 → dataOf s ≡ incomplete
+  unfolding dataOf
+  data-under h = rw (lt-ltb _ _ h)
+
+  pub sd1-read : 6 ≤ length s → byteAt s 0 ≡ SD1 → dataOf s ≡ frameOf s 1 3
+  unfolding dataOf
+  sd1-read h d = rw (le-ltb _ _ h, d)
+
+  pub sd2-read : 6 ≤ length s → byteAt s 0 ≡ SD2 → dataOf s ≡ lengthsOf s
+  unfolding dataOf
+  sd2-read h d = rw (le-ltb _ _ h, d)
+
+  pub sd3-read : 6 ≤ length s → (byteAt s 0 ≡ SD1 → ⊥) → (byteAt s 0 ≡ SD2 → ⊥) → dataOf s ≡ frameOf s 1 11
+  unfolding dataOf
+  sd3-read h a b = rw (le-ltb _ _ h, ne-eqb _ _ a, ne-eqb _ _ b)
+
+  pub differ-read : (byteAt s 1 ≡ byteAt s 2 → ⊥) → lengthsOf s ≡ refused 2
+  unfolding lengthsOf
+  differ-read d = rw (ne-eqb _ _ d)
+
+  pub small-read : byteAt s 1 ≡ byteAt s 2 → byteAt s 1 < 3 → lengthsOf s ≡ refused 3
+  unfolding lengthsOf
+  small-read e l = rw (eq-eqb _ _ e, lt-ltb _ _ l)
+
+  pub lengths-read : byteAt s 1 ≡ byteAt s 2 → 3 ≤ byteAt s 1 → lengthsOf s ≡ frameOf s 4 (byteAt s 1)
+  unfolding lengthsOf
+  lengths-read e l = rw (eq-eqb _ _ e, le-ltb _ _ l)
 
 -- Steps 5 to 7.
 pub data Content (s : List ℕ) (at l : ℕ) (fc : FunctionCode) : Reading → Type 0 where
@@ -71,11 +119,6 @@ pub data Answered (s : List ℕ) : Reading → Type 0 where
   sd1 : {r : Reading} → 6 ≤ length s → byteAt s 0 ≡ SD1 → Frame s 1 3 r → Answered s r
   sd2 : {r : Reading} → 6 ≤ length s → byteAt s 0 ≡ SD2 → byteAt s 1 ≡ byteAt s 2 → 3 ≤ byteAt s 1 → Frame s 4 (byteAt s 1) r → Answered s r
   sd3 : {r : Reading} → 6 ≤ length s → byteAt s 0 ≡ SD3 → Frame s 1 11 r → Answered s r
-
--- What holds of both sides of a pick, holds of the pick.
-picked : (P : Reading → Type 0) (t : Bool) {a b : Reading} → (t ≡ true → P a) → (t ≡ false → P b) → P (if t a b)
-picked P true f g = f refl
-picked P false f g = g refl
 
 pub content-answered : (s : List ℕ) (at l : ℕ) (fc : FunctionCode) → Content s at l fc (contentOf s at l fc)
 unfolding contentOf
@@ -165,23 +208,31 @@ answer-content (sum-differs h e) = rw (le-ltb _ _ h, ne-eqb _ _ e)
 answer-content (end-differs h e d) = rw (le-ltb _ _ h, eq-eqb _ _ e, ne-eqb _ _ d)
 answer-content (content-whole h e d) = rw (le-ltb _ _ h, eq-eqb _ _ e, eq-eqb _ _ d)
 
-answer-frame : {s : List ℕ} {at l : ℕ} {r : Reading} → Frame s at l r → frameOf s at l ≡ r
+-- A function code that is known: the rest of the telegram decides.
+pub code-read : (s : List ℕ) (at l : ℕ) (fc : FunctionCode) → at + l + 2 ≤ length s → functionCodeOf (byteAt s (at + 2)) ≡ codeFound.Is fc → frameOf s at l ≡ contentOf s at l fc
+unfolding frameOf
+code-read s at l fc h e = rw (le-ltb _ _ h, e)
+
+pub answer-frame : {s : List ℕ} {at l : ℕ} {r : Reading} → Frame s at l r → frameOf s at l ≡ r
 unfolding frameOf
 answer-frame (under-total h) = rw (lt-ltb _ _ h)
 answer-frame (code-unknown h e) = rw (le-ltb _ _ h, e)
-answer-frame (code-known fc h e c) = rw (le-ltb _ _ h, e) (answer-content c)
+answer-frame (code-known fc h e c) = code-read _ _ _ fc h e ∙ answer-content c
+
+no-zero : {n k : ℕ} → suc k ≤ n → n ≡ 0 → ⊥
+no-zero h e = omega arith
 
 -- Where there is a reason for an answer, it is given.
 pub answer-is : {s : List ℕ} {r : Reading} → Answered s r → readOf s ≡ r
-unfolding readOf tokenOf dataOf lengthsOf
-answer-is (nothing h) = rw (eq-eqb _ _ h)
-answer-is (confirmation h e) = rw (ne-eqb _ _ (λ z. no-zero h z), e)
-answer-is (token-short h e l) = rw (ne-eqb _ _ (λ z. no-zero h z), e, lt-ltb _ _ l)
-answer-is (token-whole h e) = rw (ne-eqb _ _ (λ z. no-zero h z), e, le-ltb _ _ h)
-answer-is {s} (unknown h a b d) = unknown-read s (λ z. no-zero h z) a b d
-answer-is {s} (data-short h d l) = rw (data-read s (λ z. no-zero h z) d, lt-ltb _ _ l)
-answer-is {s} (lengths-differ h d e) = rw (data-read s (λ z. no-zero h z) (inr (inl d)), le-ltb _ _ h, d, ne-eqb _ _ e)
-answer-is {s} (length-small h d e l) = rw (data-read s (λ z. no-zero h z) (inr (inl d)), le-ltb _ _ h, d, eq-eqb _ _ e, lt-ltb _ _ l)
-answer-is {s} (sd1 h d f) = rw (data-read s (λ z. no-zero h z) (inl d), le-ltb _ _ h, d) (answer-frame f)
-answer-is {s} (sd2 h d e l f) = rw (data-read s (λ z. no-zero h z) (inr (inl d)), le-ltb _ _ h, d, eq-eqb _ _ e, le-ltb _ _ l) (answer-frame f)
-answer-is {s} (sd3 h d f) = rw (data-read s (λ z. no-zero h z) (inr (inr d)), le-ltb _ _ h, d) (answer-frame f)
+answer-is {s} (nothing h) = nothing-read s h
+answer-is {s} (confirmation h e) = confirmation-read s (no-zero h) e
+answer-is {s} (token-short h e l) = token-start s (no-zero h) e ∙ token-under s l
+answer-is {s} (token-whole h e) = token-start s (no-zero h) e ∙ token-read s h
+answer-is {s} (unknown h a b d) = unknown-read s (no-zero h) a b d
+answer-is {s} (data-short h d l) = data-start s (no-zero h) d ∙ data-under s l
+answer-is {s} (lengths-differ h d e) = data-start s (no-zero h) (inr (inl d)) ∙ sd2-read s h d ∙ differ-read s e
+answer-is {s} (length-small h d e l) = data-start s (no-zero h) (inr (inl d)) ∙ sd2-read s h d ∙ small-read s e l
+answer-is {s} (sd1 h d f) = data-start s (no-zero h) (inl d) ∙ sd1-read s h d ∙ answer-frame f
+answer-is {s} (sd2 h d e l f) = data-start s (no-zero h) (inr (inl d)) ∙ sd2-read s h d ∙ lengths-read s e l ∙ answer-frame f
+answer-is {s} (sd3 h d f) =
+    data-start s (no-zero h) (inr (inr d)) ∙ sd3-read s h (λ e. omega arith) (λ e. omega arith) ∙ answer-frame f

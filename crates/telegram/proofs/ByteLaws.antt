@@ -1,17 +1,14 @@
--- Laws of byte strings: which lists are bytes, what a part of one is, and its first bytes.
+-- Laws of byte strings: which lists are bytes, and their first bytes.
 -- Assumes nothing.
-use Prim.Native.Nat.{ℕ, zero, suc, _+_, _-_, _<_, _≤_}
+use Prim.Native.Nat.{ℕ, zero, suc, _+_, _<_, _≤_}
 use mathlib.Core.List.{List, [], _∷_, _++_}
 use mathlib.Core.Path.{_≡_, _∙_, ap}
-use native.Mathlib.Nat.{add-sub-cancel-left}
 use native.Mathlib.Numerals.{add-one, add-two}
 use native.Mathlib.Omega.{arith}
 use lib.Dec.{lit<}
-use lib.ListN.{length, drop, length-append, length-take, length-drop, replicate}
-use lib.Seq.{drop-cons, getD-take, getD-drop, take-append-seam, drop-append-seam}
-use Rattle.codes.proofs.PartLaws.{shown-fits}
-use Rattle.codes.specs.Part.{part, byteAt, shownPart}
-use Rattle.codes.specs.declared.part.Part.{Part}
+use lib.ListN.{length, drop, replicate}
+use lib.Seq.{drop-cons, getD-drop}
+use Rattle.codes.specs.Part.{byteAt}
 use Rattle.telegram.specs.Begins.{Bytes}
 
 pub empty-bytes : Bytes []
@@ -33,21 +30,6 @@ zero-bytes (suc n) (suc i) = zero-bytes n i
 
 pub drop-bytes : (n : ℕ) (s : List ℕ) → Bytes s → Bytes (drop n s)
 drop-bytes n s byte i = rw (getD-drop n s i 0) (byte (n + i))
-
-pub part-length : (s : List ℕ) (at l : ℕ) → at + l ≤ length s → length (part s at (at + l)) ≡ l
-part-length s at l h = simp (length-take, length-drop) (omega arith)
-
-pub part-at : (s : List ℕ) (at l i : ℕ) → i < l → byteAt (part s at (at + l)) i ≡ byteAt s (at + i)
-part-at s at l i h = rw (getD-take (at + l - at) (drop at s) i 0 (omega arith), getD-drop)
-
--- The part between two others.
-pub part-between : (a b c : List ℕ) → part (a ++ (b ++ c)) (length a) (length a + length b) ≡ b
-part-between a b c = rw (add-sub-cancel-left, drop-append-seam a, take-append-seam)
-
--- It is what is shown of the whole at its place.
-pub shown-between : (p : Part) (a b c : List ℕ) → p .start ≡ length a → p .len ≡ length b → shownPart p (a ++ (b ++ c)) ≡ b
-shown-between p a b c place len =
-    shown-fits p (a ++ (b ++ c)) (simp length-append (omega arith)) ∙ rw (place, len) (part-between a b c)
 
 -- A byte, two and three of them, and what stands behind.
 pub one-byte : (s : List ℕ) (b : ℕ) → 1 ≤ length s → byteAt s 0 ≡ b → s ≡ b ∷ drop 1 s

@@ -11,6 +11,7 @@ use lib.Seq.{getD-append-add, getD-append-seam}
 use borrow.Author.Tests.{le-leb, lt-leb}
 use Rattle.codes.proofs.FunctionCodeLaws.{read-written}
 use Rattle.codes.proofs.NumberLaws.{state-number-small, status-number-small}
+use Rattle.codes.proofs.PartLaws.{part-between}
 use Rattle.codes.specs.Checksums.{checksumOf}
 use Rattle.codes.specs.FunctionCodes.{digit, codeByte, functionCodeOf}
 use Rattle.codes.specs.Part.{part, byteAt}
@@ -19,7 +20,6 @@ use Rattle.codes.specs.declared.function_code.FunctionCode.the-variants.{Respon
 use Rattle.codes.specs.declared.function_code.FunctionCodeFound.the-variants as codeFound
 use Rattle.telegram.proofs.AgreementLaws.{header-same, saps-same}
 use Rattle.telegram.proofs.Answers.{Content, content-whole, Frame, code-known, confirmation, token-whole, sd1, sd2, sd3, answer-is}
-use Rattle.telegram.proofs.ByteLaws.{part-between}
 use Rattle.telegram.specs.Begins.{Rules, standard, document01, CodeRead, asWritten, bit7Set, StartOf, withSD1, withSD2, withSD3, DrawsData, Draws, Begins}
 use Rattle.telegram.specs.Delimiters.{SD1, SD2, SD3, ED}
 use Rattle.telegram.specs.Picture.{addressByte, sapBytes, headWith, framed}

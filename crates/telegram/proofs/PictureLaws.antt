@@ -11,6 +11,7 @@ use lib.ListN.{length, take, drop, length-append, length-take, length-drop, take
 use lib.Seq.{drop-cons, drop-drop, getD-drop, take-take}
 use borrow.Author.Tests.{leb-true, leb-false}
 use Rattle.codes.proofs.FunctionCodeLaws.{written-read}
+use Rattle.codes.proofs.PartLaws.{part-length}
 use Rattle.codes.specs.Checksums.{checksumOf}
 use Rattle.codes.specs.FunctionCodes.{bit, digit, codeByte, functionCodeOf, responseOf}
 use Rattle.codes.specs.Part.{part, byteAt}
@@ -24,7 +25,7 @@ use Rattle.codes.specs.declared.response.ResponseStatusFound.{ResponseStatusFou
 use Rattle.codes.specs.declared.response.ResponseStatusFound.the-variants as statusFound
 use Rattle.telegram.proofs.AgreementLaws.{header-same, saps-same}
 use Rattle.telegram.proofs.Answers.{content-whole, Frame, code-known, Answered, confirmation, token-whole, sd1, sd2, sd3}
-use Rattle.telegram.proofs.ByteLaws.{drop-bytes, part-length, one-byte, two-more, three-bytes}
+use Rattle.telegram.proofs.ByteLaws.{drop-bytes, one-byte, two-more, three-bytes}
 use Rattle.telegram.proofs.ReadingLaws.{reason}
 use Rattle.telegram.specs.Begins.{Bytes, document01, CodeRead, asWritten, bit7Set, StartOf, withSD1, withSD2, withSD3, DrawsData, Begins}
 use Rattle.telegram.specs.Delimiters.{SD1, SD2, SD3, SD4, SC, ED}

@@ -14,20 +14,14 @@ use Rattle.codes.specs.Part.{shownPart}
 use Rattle.codes.specs.declared.function_code.FunctionCode.{FunctionCode}
 use Rattle.telegram.proofs.DrawnLaws.{picture-reads}
 use Rattle.telegram.proofs.PictureLaws.{read-picture}
-use Rattle.telegram.proofs.ReadingLaws.{shown-reading-injective}
 use Rattle.telegram.proofs.WrittenLaws.{pdu-drawn, written-back, only-written-back}
 use Rattle.telegram.specs.Begins.{Bytes, Rules, standard, document01, CodeRead, asWritten, bit7Set, StartOf, withSD1, withSD2, withSD3, StartBeyond, lengthOutside, fourthNot68, DrawsData, AsWritten, Begins}
 use Rattle.telegram.specs.Delimiters.{SD2}
 use Rattle.telegram.specs.Picture.{telegramBytes}
-use Rattle.telegram.specs.Reading.{whole, shownReading, readOf}
-use Rattle.telegram.specs.declared.deserialize.Deserialized.{Deserialized}
+use Rattle.telegram.specs.Reading.{whole, readOf}
 use Rattle.telegram.specs.declared.kinds.DataTelegram.{DataTelegram}
 use Rattle.telegram.specs.declared.kinds.Telegram.{Telegram}
 use Rattle.telegram.specs.declared.kinds.Telegram.the-variants.{Data}
-
--- The promise of `Telegram::deserialize` leaves one answer to each byte string.
-pub one-answer : (s : List ℕ) (x y : Deserialized) → shownReading x ≡ readOf s → shownReading y ≡ readOf s → x ≡ y
-one-answer s x y e f = shown-reading-injective x y (e ∙ sym f)
 
 -- Reading answers a telegram exactly where the bytes begin with the picture of it.
 pub read-exactly : (s : List ℕ) (t : Telegram) (n : ℕ) → Bytes s → (readOf s ≡ whole t n → Begins document01 s t n) × (Begins document01 s t n → readOf s ≡ whole t n)

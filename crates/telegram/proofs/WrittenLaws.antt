@@ -1,7 +1,6 @@
 -- What a writer writes is a picture by the standard, and so is read back.
 -- Assumes nothing.
 use Prim.Native.Nat.{ℕ, _≤_}
-use mathlib.Core.Bool.{Bool, true, false}
 use mathlib.Core.List.{List, [], _∷_, _++_, append-assoc}
 use mathlib.Core.Path.{_≡_, refl, sym, _∙_, ap}
 use native.Mathlib.Omega.{arith}
@@ -9,14 +8,14 @@ use lib.Dec.{eqb}
 use lib.ListN.{length, take, drop, length-append}
 use lib.Seq.{take-append-seam, drop-append-seam, take-at, drop-at}
 use borrow.Author.Tests.{eqb-true, eqb-false}
+use Rattle.codes.proofs.PartLaws.{shown-between}
+use Rattle.codes.proofs.PickLaws.{picked}
 use Rattle.codes.specs.Checksums.{checksumOf}
 use Rattle.codes.specs.FunctionCodes.{codeByte}
 use Rattle.codes.specs.Part.{byteAt, shownPart}
-use Rattle.codes.specs.Pick.{if}
-use Rattle.telegram.proofs.ByteLaws.{shown-between}
 use Rattle.telegram.proofs.DrawnLaws.{picture-reads}
 use Rattle.telegram.specs.Begins.{Rules, standard, document01, asWritten, StartOf, withSD1, withSD2, withSD3, DrawsData, AsWritten}
-use Rattle.telegram.specs.Delimiters.{SD1, SD2, SD3, ED}
+use Rattle.telegram.specs.Delimiters.{SD2, ED}
 use Rattle.telegram.specs.Picture.{headWith, headBytes, atFront, coveredBytes, lengthByte, startBytes, framed, telegramBytes, tokenBytes, confirmationBytes}
 use Rattle.telegram.specs.Reading.{whole, readOf}
 use Rattle.telegram.specs.declared.header.DataTelegramHeader.{DataTelegramHeader}
@@ -27,15 +26,10 @@ use Rattle.telegram.specs.declared.kinds.TokenTelegram.{TokenTelegram}
 -- The start that is written, by any rules that allow its length byte where it has one, and the delimiter again.
 written-start : {rules : Rules} (l : ℕ) → ((l ≡ 3 → ⊥) → rules .lengthMayBe l) → rules .fourthMayBe SD2 → StartOf rules l (startBytes l)
 unfolding startBytes
-written-start {rules} l lengths again = by-three (eqb l 3) refl
-  where
-    by-eleven : (t : Bool) → eqb l 11 ≡ t → rules .lengthMayBe l → StartOf rules l (if t (SD3 ∷ []) (SD2 ∷ l ∷ l ∷ SD2 ∷ []))
-    by-eleven true e may = rw (eqb-true l 11 e) withSD3
-    by-eleven false e may = withSD2 may again
-
-    by-three : (t : Bool) → eqb l 3 ≡ t → StartOf rules l (if t (SD1 ∷ []) (if (eqb l 11) (SD3 ∷ []) (SD2 ∷ l ∷ l ∷ SD2 ∷ [])))
-    by-three true e = rw (eqb-true l 3 e) withSD1
-    by-three false e = by-eleven (eqb l 11) refl (lengths (eqb-false l 3 e))
+written-start {rules} l lengths again =
+    picked (StartOf rules l) (eqb l 3) (λ e. rw (eqb-true l 3 e) withSD1)
+    (λ not3. picked (StartOf rules l) (eqb l 11) (λ e. rw (eqb-true l 11 e) withSD3)
+    (λ not11. withSD2 (lengths (eqb-false l 3 not3)) again))
 
 framed-parts : (start head pdu rest : List ℕ) → framed start (head ++ pdu) ++ rest ≡ start ++ head ++ (pdu ++ checksumOf (head ++ pdu) ∷ ED ∷ rest)
 framed-parts start head pdu rest = simp append-assoc

@@ -31,6 +31,7 @@ fn announced(address: u8) -> usize
     (address / 128) as usize
 }
 
+// How many SAP bytes the two addresses at a place announce.
 fn saps_at(buffer: &[u8], at: usize) -> usize
     requires { ⌜ at + 1 < length (now buffer) ⌝ }
     ensures { λ r. ⌜ (r ≡ sapsAt (now (buffer .entry)) at) × (r ≤ 2) ⌝ }

@@ -1,69 +1,57 @@
 -- Every byte of what is written is one: below 256.
 -- Assumes nothing.
-use Prim.Native.Nat.{ℕ, zero, suc, _<_, _≤_}
-use mathlib.Core.Bool.{Bool, true, false}
+use Prim.Native.Nat.{ℕ, _<_, _≤_}
 use mathlib.Core.List.{List, [], _∷_, _++_}
 use native.Mathlib.Omega.{arith}
-use lib.Dec.{eqb, lit<}
+use lib.Dec.{lit<}
 use Rattle.codes.proofs.ChecksumLaws.{checksum-byte}
 use Rattle.codes.proofs.FunctionCodeLaws.{code-byte-small}
-use Rattle.codes.specs.Pick.{if}
+use Rattle.codes.specs.Checksums.{checksumOf}
+use Rattle.telegram.proofs.ByteLaws.{empty-bytes, one-more-byte, append-bytes}
 use Rattle.telegram.specs.Begins.{Bytes}
+use Rattle.telegram.specs.Delimiters.{SD1, SD2, SD3, SD4, SC, ED}
 use Rattle.telegram.specs.Picture.{addressByte, sapBytes, headBytes, coveredBytes, lengthByte, startBytes, telegramBytes, tokenBytes, confirmationBytes}
 use Rattle.telegram.specs.declared.header.DataTelegramHeader.{DataTelegramHeader}
 use Rattle.telegram.specs.declared.header.SapOption.{SapOption}
 use Rattle.telegram.specs.declared.header.SapOption.the-variants.{Some, None}
-
--- A list of bytes, byte by byte.
-data Each : List ℕ → Type 0 where
-  none : Each []
-  more : {b : ℕ} {s : List ℕ} → b < 256 → Each s → Each (b ∷ s)
-
-each : (s : List ℕ) → Bytes s → Each s
-each [] bytes = none
-each (b ∷ s) bytes = more (bytes 0) (each s (λ i. bytes (suc i)))
-
-all : {s : List ℕ} → Each s → Bytes s
-all none i = lit< tt
-all (more h rest) zero = h
-all (more h rest) (suc i) = all rest i
-
-joined : {s t : List ℕ} → Each s → Each t → Each (s ++ t)
-joined none y = y
-joined (more h x) y = more h (joined x y)
+use Rattle.telegram_tx.proofs.LengthLaws.{any-start}
 
 address-byte : (a : ℕ) (o : SapOption) → a ≤ 127 → addressByte a o < 256
 address-byte a (Some sap) h = omega arith
 address-byte a None h = omega arith
 
-picked : (t : Bool) {x y : List ℕ} → Each x → Each y → Each (if t x y)
-picked true b c = b
-picked false b c = c
+one : (b : ℕ) → b < 256 → Bytes (b ∷ [])
+one b h = one-more-byte b [] h empty-bytes
 
-start-bytes : (l : ℕ) → l < 256 → Each (startBytes l)
-unfolding startBytes
+three-more : (a b c : ℕ) (s : List ℕ) → a < 256 → b < 256 → c < 256 → Bytes s → Bytes (a ∷ b ∷ c ∷ s)
+three-more a b c s p q r bytes = one-more-byte a (b ∷ c ∷ s) p (one-more-byte b (c ∷ s) q (one-more-byte c s r bytes))
+
+start-bytes : (l : ℕ) → l < 256 → Bytes (startBytes l)
 start-bytes l h =
-    picked (eqb l 3) (more (lit< tt) none)
-    (picked (eqb l 11) (more (lit< tt) none) (more (lit< tt) (more h (more h (more (lit< tt) none)))))
+    any-start Bytes l (one SD1 (lit< tt)) (one SD3 (lit< tt)) (three-more SD2 l l (SD2 ∷ []) (lit< tt) h h (one SD2 (lit< tt)))
 
 -- A data telegram: its SAPs and its PDU are bytes, as they are where they come from the machine.
 module _ (h : DataTelegramHeader) (pdu : List ℕ) (da : h .da .0 ≤ 127) (sa : h .sa .0 ≤ 127) (dsap : Bytes (sapBytes (h .dsap))) (ssap : Bytes (sapBytes (h .ssap))) (body : Bytes pdu) (short : lengthByte h pdu ≤ 249) where
-  covered-bytes : Each (coveredBytes h pdu)
-  unfolding coveredBytes headBytes
-  covered-bytes =
-      let saps = joined (each (sapBytes (h .dsap)) dsap) (each (sapBytes (h .ssap)) ssap) in
-      more (address-byte (h .da .0) (h .dsap) da)
-      (more (address-byte (h .sa .0) (h .ssap) sa) (more (code-byte-small (h .fc)) (joined saps (each pdu body))))
+  head-bytes : Bytes (headBytes h)
+  unfolding headBytes
+  head-bytes =
+      three-more _ _ _ (sapBytes (h .dsap) ++ sapBytes (h .ssap))
+      (address-byte (h .da .0) (h .dsap) da)
+      (address-byte (h .sa .0) (h .ssap) sa)
+      (code-byte-small (h .fc))
+      (append-bytes (sapBytes (h .dsap)) (sapBytes (h .ssap)) dsap ssap)
 
   pub telegram-bytes : Bytes (telegramBytes h pdu)
-  unfolding telegramBytes
+  unfolding telegramBytes coveredBytes
   telegram-bytes =
-      all
-      (joined (joined (start-bytes (lengthByte h pdu) (omega arith)) covered-bytes)
-      (more (checksum-byte (coveredBytes h pdu)) (more (lit< tt) none)))
+      let start : List ℕ = startBytes (lengthByte h pdu) in
+      let covered : List ℕ = headBytes h ++ pdu in
+      append-bytes (start ++ covered) (checksumOf covered ∷ ED ∷ [])
+      (append-bytes start covered (start-bytes (lengthByte h pdu) (omega arith)) (append-bytes (headBytes h) pdu head-bytes body))
+      (one-more-byte (checksumOf covered) (ED ∷ []) (checksum-byte covered) (one ED (lit< tt)))
 
 pub token-bytes : (da sa : ℕ) → da < 256 → sa < 256 → Bytes (tokenBytes da sa)
-token-bytes da sa p q = all (more (lit< tt) (more p (more q none)))
+token-bytes da sa p q = three-more SD4 da sa [] (lit< tt) p q empty-bytes
 
 pub confirmation-bytes : Bytes confirmationBytes
-confirmation-bytes = all (more (lit< tt) none)
+confirmation-bytes = one SC (lit< tt)

@@ -1,9 +1,8 @@
 -- Document 01's samples of writing, on the definitions.
 -- Assumes nothing.
-use Prim.Native.Nat.{ℕ}
 use mathlib.Core.Path.{_≡_, refl}
-use mathlib.Core.List.{List, [], _∷_}
-use lib.ListN.{length, replicate}
+use mathlib.Core.List.{[], _∷_}
+use lib.ListN.{replicate}
 use Rattle.codes.specs.Checksums.{sumOf, checksumOf}
 use Rattle.codes.specs.FunctionCodes.{codeByte}
 use Rattle.codes.specs.Refusals.{gives, refused}
@@ -17,7 +16,7 @@ use Rattle.telegram.specs.Picture.{headBytes, coveredBytes, lengthByte, startBy
 use Rattle.telegram.specs.declared.header.AddressOption.the-variants.{Some, None}
 use Rattle.telegram.specs.declared.header.DataTelegramHeader.{DataTelegramHeader}
 use Rattle.telegram.specs.declared.header.SapOption.the-variants as sapOption
-use Rattle.telegram_tx.specs.Writing.{sendOf, writeOf, writeTokenOf, writeConfirmationOf, bufferOf, tokenBufferOf, confirmationBufferOf, plainHeader, statusRequest}
+use Rattle.telegram_tx.specs.Writing.{sendOf, writeOf, tokenBufferOf, confirmationBufferOf, plainHeader, statusRequest}
 
 -- from station 2 to station 5, no SAPs
 abbrev from2to5 : FunctionCode → DataTelegramHeader

@@ -1,7 +1,7 @@
--- Writing what was read: it is sent, with the bytes that were read, exactly for what a writer would write and a length byte
--- of at most 249. It rests on the reader's theorem that these telegrams' bytes are the same.
+-- Writing the telegram that bytes begin with: it is sent, as the bytes that were read, exactly for what a writer would write and a length
+-- byte of at most 249. It rests on the reader's theorem that these telegrams' bytes are the same.
 -- Assumes nothing.
-use Prim.Native.Nat.{ℕ, _<_, _≤_}
+use Prim.Native.Nat.{ℕ, _≤_}
 use mathlib.Core.Bool.{Bool, true, false}
 use mathlib.Core.List.{List, _++_}
 use mathlib.Core.Path.{_≡_, refl, sym, _∙_, ap}
@@ -11,35 +11,30 @@ use lib.ListN.{length, take, drop}
 use lib.Seq.{length-take-le, take-at}
 use borrow.Author.Tests.{ltb-true, ltb-false}
 use Rattle.codes.specs.Part.{shownPart}
-use Rattle.codes.specs.Refusals.{Outcome, gives, refused}
+use Rattle.telegram.proofs.DrawnLaws.{picture-reads}
 use Rattle.telegram.proofs.ReadingLaws.{total-within, addresses-small}
-use Rattle.telegram.proofs.Theorems.{read-exactly, written-back-exactly}
-use Rattle.telegram.specs.Begins.{Bytes, document01, AsWritten, Begins}
+use Rattle.telegram.proofs.Theorems.{written-back-exactly}
+use Rattle.telegram.specs.Begins.{document01, AsWritten, Begins}
 use Rattle.telegram.specs.Picture.{lengthByte, telegramBytes}
 use Rattle.telegram.specs.Reading.{whole, readOf}
 use Rattle.telegram.specs.declared.kinds.DataTelegram.{DataTelegram}
 use Rattle.telegram.specs.declared.kinds.Telegram.the-variants.{Data}
 use Rattle.telegram_tx.proofs.WritingLaws.{refused-9, refused-10, sent}
-use Rattle.telegram_tx.specs.Writing.{replyOf, writeOf, bufferOf}
+use Rattle.telegram_tx.specs.Writing.{replyOf}
+use Rattle.telegram_tx.specs.WrittenBack.{WrittenBack}
 use Rattle.telegram_tx.specs.declared.tx.TelegramTxResponse.{TelegramTxResponse}
 
--- what was read from s, in n bytes, is sent again, and stands in the buffer with the bytes that it was read from
-pub record WrittenBack (s : List ℕ) (d : DataTelegram) (n : ℕ) (buf : List ℕ) : Type 0 where
-  pub answer : writeOf (d .h) (shownPart (d .pdu) s) (length buf) ≡ gives (record { «bytes_sent» = n; «expects_reply» = replyOf (d .h .da) (d .h .fc) })
-  pub buffer : bufferOf (d .h) (shownPart (d .pdu) s) buf ≡ take n s ++ drop n buf
+module _ {s : List ℕ} {d : DataTelegram} {n : ℕ} (b : Begins document01 s (Data d) n) (buf : List ℕ) (room : n ≤ length buf) where
+  read : readOf s ≡ whole (Data d) n
+  read = picture-reads b
 
--- the telegram that bytes begin with where it was read from them
-abbrev pub begun : (s : List ℕ) (d : DataTelegram) (n : ℕ) → Bytes s → readOf s ≡ whole (Data d) n → Begins document01 s (Data d) n
-begun s d n byte read = read-exactly s (Data d) n byte .0 read
-
-module _ (s : List ℕ) (byte : Bytes s) (d : DataTelegram) (n : ℕ) (read : readOf s ≡ whole (Data d) n) (buf : List ℕ) (room : n ≤ length buf) where
   taken : length (take n s) ≡ n
   taken = length-take-le n s (total-within s read)
 
-  pub written-back : AsWritten (begun s d n byte read .draws) → lengthByte (d .h) (shownPart (d .pdu) s) ≤ 249 → WrittenBack s d n buf
+  pub written-back : AsWritten (b .draws) → lengthByte (d .h) (shownPart (d .pdu) s) ≤ 249 → WrittenBack s d n buf
   written-back own short =
       let small = addresses-small s read in
-      let same : telegramBytes (d .h) (shownPart (d .pdu) s) ≡ take n s = written-back-exactly (begun s d n byte read) .0 own in
+      let same : telegramBytes (d .h) (shownPart (d .pdu) s) ≡ take n s = written-back-exactly b .0 own in
       let long : length (telegramBytes (d .h) (shownPart (d .pdu) s)) ≡ n = ap length same ∙ taken in
       let answer = sent (d .h) (shownPart (d .pdu) s) (length buf) (small .0) (small .1) short (omega arith) in
       record { answer = rw long at answer; buffer = rw (answer, long, same) }
@@ -63,7 +58,7 @@ module _ (s : List ℕ) (byte : Bytes s) (d : DataTelegram) (n : ℕ) (read : re
       absurd (omega arith)
   room-enough false e short back = ltb-false _ _ e
 
-  pub only-written-back : WrittenBack s d n buf → AsWritten (begun s d n byte read .draws) × (lengthByte (d .h) (shownPart (d .pdu) s) ≤ 249)
+  pub only-written-back : WrittenBack s d n buf → AsWritten (b .draws) × (lengthByte (d .h) (shownPart (d .pdu) s) ≤ 249)
   only-written-back back =
       let small = addresses-small s read in
       let short = short-enough (ltb 249 (lengthByte (d .h) (shownPart (d .pdu) s))) refl back in
@@ -74,4 +69,4 @@ module _ (s : List ℕ) (byte : Bytes s) (d : DataTelegram) (n : ℕ) (read : re
       let long : length (telegramBytes (d .h) (shownPart (d .pdu) s)) ≡ n = ap (λ (r : TelegramTxResponse). r .«bytes_sent») response in
       let both : telegramBytes (d .h) (shownPart (d .pdu) s) ++ drop n buf ≡ take n s ++ drop n buf = rw (answer, long) at (back .buffer) in
       let same : telegramBytes (d .h) (shownPart (d .pdu) s) ≡ take n s = sym (take-at _ (drop n buf) n long) ∙ ap (take n) both ∙ take-at (take n s) (drop n buf) n taken in
-      (written-back-exactly (begun s d n byte read) .1 same, short)
+      (written-back-exactly b .1 same, short)

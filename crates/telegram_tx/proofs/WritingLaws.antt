@@ -4,7 +4,6 @@ use Prim.Native.Nat.{ℕ, _<_, _≤_}
 use mathlib.Core.Path.{_≡_, sym, ap}
 use mathlib.Core.Bool.{or-true}
 use mathlib.Core.List.{List, _++_}
-use native.Mathlib.Nat.{zero-add}
 use native.Mathlib.Omega.{arith}
 use lib.ListN.{length, drop}
 use lib.Seq.{sets}
@@ -67,7 +66,7 @@ sent-stands response w t buf after e f = (sym e, rw e f)
 pub stored-sent : (t : List ℕ) (reply : AddressOption) (response : TelegramTxResponse) (buf : List ℕ) → length t ≤ length buf → response ≡ record { «bytes_sent» = length t; «expects_reply» = reply } → (gives response ≡ sendOf t reply (length buf)) × (sets buf 0 t ≡ leftOf (sendOf t reply (length buf)) t buf)
 stored-sent t reply response buf room e =
     sent-stands response (sendOf t reply (length buf)) t buf (sets buf 0 t) (rw e (sent-of t reply (length buf) room))
-    (front-placed buf t _ _ (stores-placed buf 0 t (rw zero-add room)) .1)
+    (front-placed room (stores-placed buf 0 t) .1)
 
 -- A promise through `shownWriting` leaves one answer.
 pub shown-writing-injective : (x y : TelegramTxResult) → shownWriting x ≡ shownWriting y → x ≡ y

@@ -2,17 +2,18 @@
 -- Assumes nothing.
 use Prim.Native.Nat.{ℕ, _+_, _%_, _≤_, _<_}
 use mathlib.Core.Path.{_≡_}
-use mathlib.Core.List.{List, _++_}
-use lib.ListN.{length, take, drop}
+use mathlib.Core.List.{List}
+use lib.ListN.{length}
+use lib.Seq.{sets}
 use Rattle.codes.specs.Checksums.{sumOf}
 use Rattle.telegram.specs.Picture.{lengthByte}
 use Rattle.telegram.specs.declared.header.DataTelegramHeader.{DataTelegramHeader}
 use Rattle.telegram_tx.specs.declared.put.Place.{Place}
 
--- the bytes p stand in the buffer from a place on, the next place is behind them, and all other bytes stayed
+-- the bytes p were stored one by one from a place on, and the next place is behind them; all other bytes stayed
 pub record Placed (before : List ℕ) (at : ℕ) (p : List ℕ) (next : ℕ) (after : List ℕ) : Type 0 where
   pub next-place : next ≡ at + length p
-  pub buffer : after ≡ take at before ++ p ++ drop (at + length p) before
+  pub buffer : after ≡ sets before at p
 
 -- the same, and the bytes p are added to the sum
 pub record Covers (before : List ℕ) (place : Place) (p : List ℕ) (next : Place) (after : List ℕ) : Type 0 where

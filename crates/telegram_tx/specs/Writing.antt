@@ -1,8 +1,8 @@
 -- Document 01, "Writing": the answer of each call that writes a telegram, and the whole buffer that it leaves.
 -- Assumes nothing.
 use Prim.Native.Nat.{ℕ}
-use mathlib.Core.Bool.{Bool, true, false, _||_}
-use mathlib.Core.List.{List, [], _++_}
+use mathlib.Core.Bool.{_||_}
+use mathlib.Core.List.{List, _++_}
 use lib.Dec.{ltb}
 use lib.ListN.{length, drop}
 use Rattle.codes.specs.Pick.{if}

@@ -42,7 +42,7 @@ fn put_start(buf: &mut [u8], l: usize) -> usize
     ensures { λ r. ⌜ Fitted (now (buf .entry)) (length (startBytes l) + l + 2) (startBytes l) r (now (buf .exit)) ⌝ }
 {
     let room = buf.len();
-    // no PDU
+    // no content: neither SAPs nor a PDU
     if l == 3 {
         if room < 6 {
             return 0;

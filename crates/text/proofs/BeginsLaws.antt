@@ -1,26 +1,18 @@
 -- Laws of `begins`: byte by byte, and as an equation of texts.
 -- Assumes nothing.
-use mathlib.Core.Path.{_≡_, refl, sym, ap, _∙_}
+use mathlib.Core.Path.{_≡_, refl, ap, _∙_}
 use mathlib.Core.Bool.{Bool, true, false}
 use mathlib.Core.List.{List, [], _∷_, _++_}
-use Prim.Native.Nat.{ℕ, suc, _+_, _<_, _≤_}
+use Prim.Native.Nat.{ℕ, _+_, _<_, _≤_}
 use native.Mathlib.Numerals.{add-one}
 use native.Mathlib.Omega.{arith}
 use borrow.Author.Tests.{eqb-true, eq-eqb}
 use lib.Dec.{eqb}
 use lib.ListN.{length, getD, drop, length-drop, drop-of-length-le}
 use lib.Seq.{drop-cons, drop-drop}
+use Rattle.codes.proofs.PickLaws.{both-first, both-second}
 use Rattle.codes.specs.Pick.{if}
 use Rattle.text.specs.Begins.{begins}
-
--- what a test joined to another says: both hold
-pub both-first : (s t : Bool) → if s t false ≡ true → s ≡ true
-both-first true t e = refl
-both-first false t e = e
-
-pub both-second : (s t : Bool) → if s t false ≡ true → t ≡ true
-both-second true t e = e
-both-second false t e = let z : true ≡ false = sym e in cc
 
 -- the first byte is there: the rest decides
 cons-there : (b : ℕ) (bytes text : List ℕ) → begins (b ∷ []) text ≡ true → begins (b ∷ bytes) text ≡ begins bytes (drop 1 text)

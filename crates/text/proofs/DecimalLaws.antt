@@ -3,15 +3,16 @@
 use mathlib.Core.Path.{_≡_, refl, sym, ap, ap₂, _∙_}
 use mathlib.Core.Bool.{Bool, true, false}
 use mathlib.Core.List.{List, [], _∷_, _++_, append-assoc, append-nil}
-use Prim.Native.Nat.{ℕ, zero, suc, _+_, _-_, _*_, _/_, _%_, _^_, _≤_, _<_, min}
-use native.Mathlib.Nat.{pow-suc, one-le-pow}
+use Prim.Native.Nat.{ℕ, zero, suc, _+_, _-_, _*_, _/_, _%_, _^_, _≤_, _<_}
+use native.Mathlib.Nat.{pow-suc}
 use native.Mathlib.Decide.{decLt}
 use native.Mathlib.Omega.{arith}
-use borrow.Author.Tests.{lt-ltb, le-ltb, le-leb, lt-leb, leb-true, leb-false}
-use lib.Dec.{leb, ltb, eqb}
+use borrow.Author.Tests.{lt-ltb, le-ltb, le-leb, leb-true}
+use lib.Dec.{leb}
 use lib.ListN.{length, getD, length-append, List·getD-append}
+use Rattle.codes.proofs.PickLaws.{both-first, both-second}
 use Rattle.codes.specs.Pick.{if}
-use Rattle.text.specs.Decimal.{digitOf, digits, decimalOf, valueFrom, valueOf, isDigit, digitsIn, same}
+use Rattle.text.specs.Decimal.{digitOf, digits, decimalOf, valueFrom, valueOf, isDigit, digitsIn}
 
 -- ---- the rule
 
@@ -85,14 +86,6 @@ decimal-some = by-digits (λ n. 0 < length (decimalOf n))
     (λ n s. omega (arith, small-length n s))
     (λ n l p. omega (arith, large-length n l))
 
--- from 10 ^ k on there are at least k + 1
-pub decimal-length-from : (k n : ℕ) → 10 ^ k ≤ n → k < length (decimalOf n)
-decimal-length-from zero n h = decimal-some n
-decimal-length-from (suc k) n h =
-    let p : 1 ≤ 10 ^ k = one-le-pow k 10 (omega arith) in
-    let q : 10 ^ k * 10 ≤ n = rw (pow-suc 10 k) at h in
-    omega (arith, large-length n (omega arith), decimal-length-from k (n / 10) (omega arith))
-
 -- a number that fits 64 bits has at most 20
 pub decimal-length-word : (n : ℕ) → n < 2 ^ 64 → length (decimalOf n) ≤ 20
 decimal-length-word n h = decimal-length 19 n (omega arith)
@@ -111,15 +104,15 @@ decimal-value = by-digits (λ n. valueOf (decimalOf n) ≡ n)
     (λ n s. rw (decimal-small n s) (omega arith))
     (λ n l e. rw (decimal-large n l, value-snoc, e) (omega arith))
 
--- two numbers with the same digits are the same
-pub decimal-injective : (n m : ℕ) → decimalOf n ≡ decimalOf m → n ≡ m
-decimal-injective n m e = sym (decimal-value n) ∙ ap valueOf e ∙ decimal-value m
-
 -- ---- the digits that a text begins with
 
 pub digit-is : (d : ℕ) → d < 10 → isDigit (digitOf d) ≡ true
 unfolding isDigit
 digit-is d h = rw (le-leb 48 (48 + d) (omega arith), le-leb (48 + d) 57 (omega arith))
+
+pub digit-range : (b : ℕ) → isDigit b ≡ true → (48 ≤ b) × (b ≤ 57)
+unfolding isDigit
+digit-range b e = (leb-true 48 b (both-first (leb 48 b) (leb b 57) e), leb-true b 57 (both-second (leb 48 b) (leb b 57) e))
 
 -- digits in front of a text are digits that it begins with
 pub digits-in-front : (n : ℕ) (rest : List ℕ) → digitsIn (decimalOf n ++ rest) ≡ decimalOf n ++ digitsIn rest
@@ -140,13 +133,12 @@ digits-in-digits (b ∷ text) = go (isDigit b) refl (digits-in-digits text)
 
 -- of digits throughout, the first is one and the rest are too
 pub digits-first : (b : ℕ) (bytes : List ℕ) → digitsIn (b ∷ bytes) ≡ b ∷ bytes → (48 ≤ b) × (b ≤ 57)
-unfolding digitsIn isDigit
-digits-first b bytes e = go (leb 48 b) (leb b 57) refl refl e
+unfolding digitsIn
+digits-first b bytes e = go (isDigit b) refl e
   where
-    go : (s t : Bool) → leb 48 b ≡ s → leb b 57 ≡ t → if (if s t false) (b ∷ digitsIn bytes) [] ≡ b ∷ bytes → (48 ≤ b) × (b ≤ 57)
-    go true true p q e = (leb-true 48 b p, leb-true b 57 q)
-    go true false p q e = let z : _≡_ {A = ℕ} 0 1 = cc in omega arith
-    go false t p q e = let z : _≡_ {A = ℕ} 0 1 = cc in omega arith
+    go : (t : Bool) → isDigit b ≡ t → if t (b ∷ digitsIn bytes) [] ≡ b ∷ bytes → (48 ≤ b) × (b ≤ 57)
+    go true p e = digit-range b p
+    go false p e = let z : _≡_ {A = ℕ} 0 1 = cc in omega arith
 
 pub digits-rest : (b : ℕ) (bytes : List ℕ) → digitsIn (b ∷ bytes) ≡ b ∷ bytes → digitsIn bytes ≡ bytes
 unfolding digitsIn

@@ -2,11 +2,12 @@
 -- Assumes nothing.
 use mathlib.Core.Path.{_≡_, refl, sym, ap, _∙_}
 use mathlib.Core.List.{List, [], _∷_, _++_}
-use Prim.Native.Nat.{ℕ, suc, _+_, _≤_, _<_, min}
+use Prim.Native.Nat.{ℕ, suc, _+_, _≤_, min}
 use native.Mathlib.Decide.{decLe}
 use native.Mathlib.Omega.{arith}
 use lib.ListN.{length, set, take, drop, length-append, length-set}
-use lib.Seq.{sets, set-out, length-sets, sets-eq, take-all, take-append-seam}
+use lib.Seq.{set-out, length-sets, take-all, take-append-seam}
+use Rattle.buffers.proofs.StoreLaws.{stores-then, stores-front}
 use Rattle.text.specs.Placed.{laid, behind, Placed}
 
 -- stores from beyond the end change nothing
@@ -14,12 +15,6 @@ pub laid-out : (buffer : List ℕ) (at : ℕ) (bytes : List ℕ) → length buff
 laid-out buffer at [] h = refl
 laid-out buffer at (b ∷ bytes) h =
     laid-out (set buffer at b) (suc at) bytes (simp length-set (omega arith)) ∙ set-out buffer at b h
-
--- one row of bytes, then the next behind it: both together
-pub laid-then : (buffer : List ℕ) (at : ℕ) (p q : List ℕ) → laid (laid buffer at p) (at + length p) q ≡ laid buffer at (p ++ q)
-laid-then buffer at [] q = ap (λ (k : ℕ). laid buffer k q) (omega arith)
-laid-then buffer at (b ∷ p) q =
-    ap (λ (k : ℕ). laid (laid (set buffer at b) (suc at) p) k q) (omega arith) ∙ laid-then (set buffer at b) (suc at) p q
 
 pub laid-length : (buffer : List ℕ) (at : ℕ) (bytes : List ℕ) → length (laid buffer at bytes) ≡ length buffer
 laid-length buffer at bytes = length-sets buffer at bytes
@@ -29,11 +24,11 @@ laid-behind : (buffer : List ℕ) (at : ℕ) (p q : List ℕ) → laid (laid buf
 laid-behind buffer at p q = go (decLe (at + length p) (length buffer + 1))
   where
     go : Dec (at + length p ≤ length buffer + 1) → laid (laid buffer at p) (behind buffer at p) q ≡ laid buffer at (p ++ q)
-    go (yes h) = ap (λ (k : ℕ). laid (laid buffer at p) k q) (omega arith) ∙ laid-then buffer at p q
+    go (yes h) = ap (λ (k : ℕ). laid (laid buffer at p) k q) (omega arith) ∙ stores-then buffer at p q
     go (no h) =
         laid-out (laid buffer at p) (behind buffer at p) q (rw laid-length (omega arith))
         ∙ sym (laid-out (laid buffer at p) (at + length p) q (rw laid-length (omega arith)))
-        ∙ laid-then buffer at p q
+        ∙ stores-then buffer at p q
 
 -- a row of no bytes: the place is clipped, the buffer stays
 pub none : {buffer : List ℕ} {at next : ℕ} → next ≡ min at (length buffer + 1) → Placed buffer at [] next buffer
@@ -50,22 +45,13 @@ then {before} {at = at} {p = p} {q = q} f g = record {
 pub kept : {before after : List ℕ} {at next : ℕ} {p : List ℕ} → Placed before at p next after → length after ≡ length before
 kept {before} {at = at} {p = p} f = rw (f .buffer) (laid-length before at p)
 
--- where there is room, the place is just behind the bytes, and they stand between what stood before and behind them
+-- where there is room, the place is just behind the bytes
 pub place-fits : {before after : List ℕ} {at next : ℕ} {p : List ℕ} → Placed before at p next after → at + length p ≤ length before → next ≡ at + length p
 place-fits f h = omega (arith, f .place)
 
-pub buffer-fits : {before after : List ℕ} {at next : ℕ} {p : List ℕ} → Placed before at p next after → at + length p ≤ length before
-    → after ≡ take at before ++ p ++ drop (at + length p) before
-buffer-fits {before} {at = at} {p = p} f h = f .buffer ∙ sets-eq p before at h
-
--- the place answered tells whether there was room
-pub fits-place : {before after : List ℕ} {at next : ℕ} {p : List ℕ} → Placed before at p next after → next ≤ length before → at + length p ≤ length before
-fits-place f h = omega (arith, f .place)
-
 -- at the front of a buffer with room for them, the bytes stand in front of their length
 pub laid-front : (buffer p : List ℕ) → length p ≤ length buffer → take (length p) (laid buffer 0 p) ≡ p
-laid-front buffer p h =
-    ap (take (length p)) (sets-eq p buffer 0 (omega arith)) ∙ take-append-seam p (drop (0 + length p) buffer)
+laid-front buffer p h = ap (take (length p)) (stores-front buffer p h) ∙ take-append-seam p (drop (length p) buffer)
 
 -- as many bytes as the buffer has are all that it then holds
 pub laid-whole : (buffer p : List ℕ) → length p ≡ length buffer → laid buffer 0 p ≡ p

@@ -3,7 +3,7 @@
 use mathlib.Core.Path.{_≡_, refl, sym, ap, _∙_}
 use mathlib.Core.Bool.{Bool, true, false, not}
 use mathlib.Core.List.{List, [], _∷_, _++_, append-nil}
-use Prim.Native.Nat.{ℕ, zero, suc, _+_, _-_, _*_, _≤_, _<_, min}
+use Prim.Native.Nat.{ℕ, suc, _+_, _-_, _*_, _≤_, _<_, min}
 use native.Mathlib.Decide.{decLe, decLt}
 use native.Mathlib.Nat.{add-zero}
 use native.Mathlib.Numerals.{add-one}
@@ -12,17 +12,13 @@ use borrow.Author.Tests.{eqb-true, eqb-false, eq-eqb, leb-true, le-leb, lt-leb}
 use lib.Dec.{leb, eqb}
 use lib.ListN.{length, getD, drop, length-drop, drop-of-length-le}
 use lib.Seq.{drop-cons, drop-drop, getD-drop}
+use Rattle.codes.proofs.PickLaws.{both-first, both-second}
 use Rattle.codes.specs.Pick.{if}
 use Rattle.text.specs.declared.decimal.Number.the-variants.{Is, Nothing}
 use Rattle.text.specs.Decimal.{decimalOf, digits, numberAt, valueFrom, valueOf, isDigit, digitsIn, same, isDecimal, DigitsRead}
-use Rattle.text.proofs.BeginsLaws.{both-first, both-second}
 use Rattle.text.proofs.DecimalLaws.{decimal-one, decimal-more, decimal-head, decimal-value, digits-in-front, small-length}
 
 -- ---- the digits at a place
-
-pub digit-range : (b : ℕ) → isDigit b ≡ true → (48 ≤ b) × (b ≤ 57)
-unfolding isDigit
-digit-range b e = (leb-true 48 b (both-first (leb 48 b) (leb b 57) e), leb-true b 57 (both-second (leb 48 b) (leb b 57) e))
 
 pub digits-turn : (text : List ℕ) (at : ℕ) → at < length text → isDigit (getD text at 0) ≡ true
     → digitsIn (drop at text) ≡ getD text at 0 ∷ digitsIn (drop (at + 1) text)

@@ -1,13 +1,13 @@
 -- Bytes as hexadecimal digits.
 -- Assumes nothing.
-use Prim.Native.Nat.{ℕ, _+_, _/_, _%_}
+use Prim.Native.Nat.{ℕ, _+_, _-_, _/_, _%_}
 use mathlib.Core.List.{List, [], _∷_, _++_}
 use lib.Dec.{ltb}
 use Rattle.codes.specs.Pick.{if}
 
--- '0' to '9', then 'A' to 'F'
+-- '0' to '9' are the bytes from 48 on, 'A' to 'F' those from 65 on
 unfoldable pub hexDigit : ℕ → ℕ
-hexDigit d = if (ltb d 10) (48 + d) (55 + d)
+hexDigit d = if (ltb d 10) (48 + d) (65 + (d - 10))
 
 abbrev pub hexByte : ℕ → List ℕ
 hexByte b = hexDigit (b / 16) ∷ hexDigit (b % 16) ∷ []

@@ -51,7 +51,7 @@ struct Digits {
 fn is_digit(b: u8) -> bool
     ensures { λ r. ⌜ r ≡ isDigit b ⌝ }
 {
-    if 48 <= b { b <= 57 } else { false }
+    if b'0' <= b { b <= b'9' } else { false }
 }
 
 // One more digit behind a number. The limit keeps the product within its type.
@@ -60,7 +60,7 @@ fn append(value: usize, b: u8, limit: u32) -> usize
     requires { ⌜ 48 ≤ b ⌝ }
     ensures { λ r. ⌜ r ≡ min (value * 10 + (b - 48)) (limit + 1) ⌝ }
 {
-    let longer = value * 10 + (b - 48) as usize;
+    let longer = value * 10 + (b - b'0') as usize;
     if longer <= limit as usize {
         longer
     } else {
@@ -95,7 +95,7 @@ fn is_decimal(text: &[u8], at: usize, next: usize) -> bool
     if next - at == 1 {
         return true;
     }
-    text[at] != 48
+    text[at] != b'0'
 }
 
 // The number at a place, where there is one from 0 to the limit without leading zeros.

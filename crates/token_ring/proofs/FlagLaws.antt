@@ -11,7 +11,7 @@ use native.Mathlib.Nat.{zero-add, add-zero, suc-add, add-suc, sub-eq-zero-of-le}
 use native.Mathlib.Numerals.{add-one}
 use native.Mathlib.Omega.{arith}
 use borrow.Author.Tests.{lt-ltb, le-ltb, le-leb, lt-leb, ne-eqb}
-use lib.ListN.{length, take, drop, set, length-set, length-drop, drop-of-length-le}
+use lib.ListN.{length, take, set, length-set, drop-of-length-le}
 use lib.Seq.{ext-getD, getD-set-other, drop-cons, take-suc, take-all, length-take-le}
 use lib.Dec.{leb, eqb}
 use mir.Val.{boolByte}

@@ -3,20 +3,20 @@
 use mathlib.Core.Bool.{Bool, true, false, _&&_}
 use mathlib.Core.List.{List}
 use mathlib.Core.Logic.{_⊎_, inl, inr, by-cases}
-use mathlib.Core.Option.{Option, none, some}
+use mathlib.Core.Option.{none, some}
 use mathlib.Core.Path.{_≡_, refl, sym, _∙_}
 use Prim.Native.Nat.{ℕ, suc, _+_, _≤_, _<_}
 use native.Mathlib.Decide.{decLt}
 use native.Mathlib.Numerals.{add-one}
 use native.Mathlib.Omega.{arith}
 use borrow.Author.Tests.{le-leb, lt-leb, le-ltb, lt-ltb}
-use lib.ListN.{length, length-set}
+use lib.ListN.{length, set, length-set}
 use Rattle.codes.specs.Pick.{if}
 use Rattle.codes.specs.declared.address.Address.{Address}
 use Rattle.token_ring.specs.declared.ring.Heard.{Heard}
 use Rattle.token_ring.specs.declared.ring.TokenRing.{TokenRing}
 use Rattle.token_ring.specs.Flags.{active, cleared, quiet, lowestFrom, highestBelow}
-use Rattle.token_ring.specs.Rules.{wrap, swept, passed, nextOf, previousOf, holds, Effect, effectOf, effected, inPhase, withFlags, updated, witnessed}
+use Rattle.token_ring.specs.Rules.{wrap, swept, passed, nextOf, previousOf, holds, fresh, made, Effect, effectOf, effected, inPhase, withFlags, updated, witnessed, stationAnswer, nextSet, removed}
 use Rattle.token_ring.specs.Leaves.{Hears}
 use Rattle.token_ring.proofs.FlagLaws.{length-cleared}
 
@@ -92,6 +92,40 @@ module _ (own : ℕ) (l : List Bool) where
   pub previous-none : highestBelow own l ≡ none → highestBelow 128 l ≡ none → previousOf own l ≡ own
   unfolding previousOf
   previous-none e f = rw (e, f)
+
+-- ---- an own, set or removed address: above 125 it is refused
+
+module _ (a : ℕ) where
+  pub answers-11 : 125 < a → stationAnswer a ≡ 11
+  answers-11 h = rw (lt-ltb 125 a h)
+
+  pub answers-done : a ≤ 125 → stationAnswer a ≡ 0
+  answers-done h = rw (le-ltb 125 a h)
+
+  pub made-refused : 125 < a → made a ≡ fresh 0
+  unfolding made
+  made-refused h = rw (lt-ltb 125 a h)
+
+  pub made-fresh : a ≤ 125 → made a ≡ fresh a
+  unfolding made
+  made-fresh h = rw (le-ltb 125 a h)
+
+  module _ (r : TokenRing) where
+    pub set-refused : 125 < a → nextSet a r ≡ r
+    unfolding nextSet
+    set-refused h = rw (lt-ltb 125 a h)
+
+    pub set-done : a ≤ 125 → nextSet a r ≡ withFlags (passed (r .«this_station» .0) a (set (r .«active_stations») a true)) r
+    unfolding nextSet
+    set-done h = rw (le-ltb 125 a h)
+
+    pub remove-refused : 125 < a → removed a r ≡ r
+    unfolding removed
+    remove-refused h = rw (lt-ltb 125 a h)
+
+    pub remove-done : a ≤ 125 → removed a r ≡ withFlags (set (r .«active_stations») a false) r
+    unfolding removed
+    remove-done h = rw (le-ltb 125 a h)
 
 -- ---- a witnessed pass
 

@@ -2,12 +2,11 @@
 -- Assumes nothing.
 use mathlib.Core.Bool.{Bool, true, false}
 use mathlib.Core.List.{List}
-use mathlib.Core.Logic.{_⊎_, ⊎-elim, by-cases}
+use mathlib.Core.Logic.{inl, inr, ⊎-elim, by-cases}
 use mathlib.Core.Path.{_≡_, refl, sym, _∙_}
 use Prim.Native.Nat.{ℕ, _≤_, _<_}
 use native.Mathlib.Decide.{decLt}
 use native.Mathlib.Omega.{arith}
-use borrow.Author.Tests.{lt-ltb, le-ltb}
 use lib.ListN.{length, set, replicate, length-set, length-replicate, getD-replicate, List·getD-eq-default}
 use lib.Seq.{getD-set-other}
 use Rattle.codes.specs.Pick.{if}
@@ -15,11 +14,11 @@ use Rattle.token_ring.specs.declared.las_state.LasState.{LasState}
 use Rattle.token_ring.specs.declared.ring.TokenRing.{TokenRing}
 use Rattle.token_ring.specs.Flags.{active}
 use Rattle.token_ring.specs.Rules.{swept, passed, fresh, made, inPhase, withFlags, updated, Effect, effected, witnessed, claimed, nextSet, removed}
-use Rattle.token_ring.specs.Meaning.{Active, NoneBetween, inGap, Reached, by-new, by-witness, by-claim, by-set-next, by-remove, Sound}
+use Rattle.token_ring.specs.Meaning.{Active, inGap, Reached, by-new, by-witness, by-claim, by-set-next, by-remove, Sound}
 use Rattle.token_ring.proofs.FlagLaws.{if-same}
-use Rattle.token_ring.proofs.RuleLaws.{length-passed, witnessed-sa, witnessed-da, witnessed-effect}
+use Rattle.token_ring.proofs.RuleLaws.{length-passed, made-fresh, made-refused, remove-done, remove-refused, set-done, set-refused, witnessed-effect, witnessed-ignored}
 use Rattle.token_ring.proofs.Sets.{both}
-use Rattle.token_ring.proofs.Neighbours.{next-active, next-clear, previous-active, previous-clear}
+use Rattle.token_ring.proofs.Neighbours.{next-active, previous-active}
 use Rattle.token_ring.proofs.ByIndex.{swept-at}
 
 -- no flag above 125 is set
@@ -87,22 +86,20 @@ module _ {r : TokenRing} (s : Sound r) where
   sound-updated sa da h = sound-passed sa da (r .«active_stations») h (s .size) (s .high)
 
   pub sound-set-next : (a : ℕ) → Sound (nextSet a r)
-  unfolding nextSet
   sound-set-next a =
       by-cases (decLt 125 a)
-      (λ h. rw (lt-ltb 125 a h) s)
+      (λ h. rw (set-refused a r h) s)
       (λ h. let k : a ≤ 125 = omega arith in
-      rw (le-ltb 125 a k)
+      rw (set-done a r k)
       (sound-passed (r .«this_station» .0) a (set (r .«active_stations») a true) (s .own) (length-set (r .«active_stations») a true ∙ s .size)
       (low-set (r .«active_stations») a true k (s .high))))
 
   pub sound-remove : (a : ℕ) → Sound (removed a r)
-  unfolding removed
   sound-remove a =
       by-cases (decLt 125 a)
-      (λ h. rw (lt-ltb 125 a h) s)
+      (λ h. rw (remove-refused a r h) s)
       (λ h. let k : a ≤ 125 = omega arith in
-      rw (le-ltb 125 a k) (sound-withFlags (set (r .«active_stations») a false) (length-set (r .«active_stations») a false ∙ s .size)
+      rw (remove-done a r k) (sound-withFlags (set (r .«active_stations») a false) (length-set (r .«active_stations») a false ∙ s .size)
       (low-set (r .«active_stations») a false k (s .high))))
 
 module _ {r : TokenRing} (s : Sound r) where
@@ -113,20 +110,19 @@ module _ {r : TokenRing} (s : Sound r) where
   pub sound-witness : (sa da : ℕ) → Sound (witnessed sa da r)
   sound-witness sa da =
       by-cases (decLt 125 sa)
-      (λ h. rw (witnessed-sa sa da r h) s)
+      (λ h. rw (witnessed-ignored sa da r (inl h)) s)
       (λ h. by-cases (decLt 125 da)
-      (λ k. rw (witnessed-da sa da r (omega arith) k) s)
+      (λ k. rw (witnessed-ignored sa da r (inr k)) s)
       (λ k. rw (witnessed-effect sa da r (omega arith) (omega arith)) (sound-effected _ sa da (omega arith))))
 
   pub sound-claim : Sound (claimed r)
   sound-claim = sound-inPhase s _
 
 pub sound-new : (own : ℕ) → Sound (made own)
-unfolding made
 sound-new own =
     by-cases (decLt 125 own)
-    (λ h. rw (lt-ltb 125 own h) (sound-fresh 0 (omega arith)))
-    (λ h. let k : own ≤ 125 = omega arith in rw (le-ltb 125 own k) (sound-fresh own k))
+    (λ h. rw (made-refused own h) (sound-fresh 0 (omega arith)))
+    (λ h. let k : own ≤ 125 = omega arith in rw (made-fresh own k) (sound-fresh own k))
 
 -- every list that the calls make
 pub sound : {r : TokenRing} → Reached r → Sound r
@@ -135,18 +131,3 @@ sound (by-witness sa da w) = sound-witness (sound w) sa da
 sound (by-claim w) = sound-claim (sound w)
 sound (by-set-next a w) = sound-set-next (sound w) a
 sound (by-remove a w) = sound-remove (sound w) a
-
--- ---- the neighbours of such a list
-
-module _ {r : TokenRing} (s : Sound r) where
-  pub next-station-active : Active (r .«active_stations») (r .«next_station» .0) ⊎ (r .«next_station» .0 ≡ r .«this_station» .0)
-  next-station-active = rw (s .next) (next-active (r .«this_station» .0) (r .«active_stations»))
-
-  pub next-station-clear : NoneBetween (r .«this_station» .0) (r .«next_station» .0) (r .«active_stations»)
-  next-station-clear = rw (s .next) (next-clear (r .«this_station» .0) (r .«active_stations»))
-
-  pub previous-station-active : Active (r .«active_stations») (r .«previous_station» .0) ⊎ (r .«previous_station» .0 ≡ r .«this_station» .0)
-  previous-station-active = rw (s .previous) (previous-active (r .«this_station» .0) (r .«active_stations») (s .size))
-
-  pub previous-station-clear : NoneBetween (r .«previous_station» .0) (r .«this_station» .0) (r .«active_stations»)
-  previous-station-clear = rw (s .previous) (previous-clear (r .«this_station» .0) (r .«active_stations») (s .size))

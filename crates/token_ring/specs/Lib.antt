@@ -4,4 +4,4 @@ pub mod Rules
 pub mod Promises
 pub mod Leaves
 pub mod Meaning
-pub mod Samples
+pub mod Passes

@@ -22,7 +22,7 @@ pub(crate) fn clear(flags: &mut [bool; 128], from: usize, to: usize)
     }
 }
 
-// Sets the flag at `at`. There is none above 127.
+// Sets or clears the flag at `at`. There is none above 127.
 pub(crate) fn mark(flags: &mut [bool; 128], at: usize, on: bool)
     requires { ⌜ length (now flags) ≡ 128 ⌝ }
     ensures { λ _. ⌜ now (flags .exit) ≡ set (now (flags .entry)) at on ⌝ }

@@ -1,3 +1,4 @@
+// The phases of a station list.
 ghost use mathlib.Core.Path.{_≡_};
 ghost use Rattle.token_ring.specs.Phases.{isValid};
 

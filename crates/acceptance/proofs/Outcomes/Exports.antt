@@ -1,8 +1,7 @@
--- No second outcome fits the promise of a public call of the static libraries, `exports` and `exports_link`. The crates under them promise
--- the same, word for word.
+-- No second outcome fits the promise of a public call of the static libraries, `exports` and `exports_link`.
 -- Assumes nothing.
 use mathlib.Core.Path.{refl}
-use Rattle.acceptance.proofs.Outcomes.General.{fixed, left, same}
+use Rattle.acceptance.proofs.Outcomes.General.{fixed, left, together, wrote}
 use Rattle.acceptance.specs.OneOutcome.{OneOutcome}
 use Rattle.exports.proofs.diagnostics_calls.koy_diagnostics_fill as koyDiagnosticsFill
 use Rattle.exports.proofs.diagnostics_calls.koy_diagnostics_module as koyDiagnosticsModule
@@ -64,31 +63,31 @@ pub record Exports : Type 0 where
 pub exports : Exports
 exports =
     record {
-      koyRead = record { one = λ κs a m n. let e = same (m .meets) (n .meets) in (λ i. e i .code, λ i. (tt, (e i .told, tt))) };
-      koyWriteData = record { one = λ κs a m n. let e = same (m .meets) (n .meets) in (λ i. e i .code, λ i. (tt, (tt, (tt, (tt, (tt, (tt, (e i .buffer, (e i .told, tt))))))))) };
-      koyWriteToken = record { one = λ κs a m n. (same (m .meets .0) (n .meets .0), λ i. (tt, (tt, (same (m .meets .1) (n .meets .1) i, tt)))) };
-      koyWriteConfirmation = record { one = λ κs a m n. (same (m .meets .0) (n .meets .0), λ i. (same (m .meets .1) (n .meets .1) i, tt)) };
-      koyStationsNew = record { one = λ κs a m n. let e = same (m .meets) (n .meets) in (λ i. e i .code, λ i. (e i .state, (tt, tt))) };
+      koyRead = together (λ κs a x y u v e. (λ i. e i .code, λ i. (tt, (e i .told, tt))));
+      koyWriteData = together (λ κs a x y u v e. (λ i. e i .code, λ i. (tt, (tt, (tt, (tt, (tt, (tt, (e i .buffer, (e i .told, tt))))))))));
+      koyWriteToken = wrote (λ κs x y e. e) (λ κs a u v p i. (tt, (tt, (p i, tt))));
+      koyWriteConfirmation = wrote (λ κs x y e. e) (λ κs a u v p i. (p i, tt));
+      koyStationsNew = together (λ κs a x y u v e. (λ i. e i .code, λ i. (e i .state, (tt, tt))));
       koyStationsWitness = left (λ κs x y. refl) (λ κs a u v p i. (p i, (tt, (tt, tt))));
       koyStationsClaim = left (λ κs x y. refl) (λ κs a u v p i. (p i, tt));
-      koyStationsSetNext = record { one = λ κs a m n. let e = same (m .meets) (n .meets) in (λ i. e i .code, λ i. (e i .state, (tt, tt))) };
-      koyStationsRemove = record { one = λ κs a m n. let e = same (m .meets) (n .meets) in (λ i. e i .code, λ i. (e i .state, (tt, tt))) };
+      koyStationsSetNext = together (λ κs a x y u v e. (λ i. e i .code, λ i. (e i .state, (tt, tt))));
+      koyStationsRemove = together (λ κs a x y u v e. (λ i. e i .code, λ i. (e i .state, (tt, tt))));
       koyStationsAbout = left (λ κs x y. refl) (λ κs a u v p i. (tt, (p i, tt)));
       koyStationsIsActive = fixed (λ κs a u v. refl);
       koyStationsFirstFrom = fixed (λ κs a u v. refl);
       koyStationsLastTo = fixed (λ κs a u v. refl);
-      koyDiagnosticsStep = record { one = λ κs a m n. let e = same (m .meets) (n .meets) in (λ i. e i .code, λ i. (tt, (tt, (e i .cursor, (e i .told, tt))))) };
-      koyDiagnosticsFill = record { one = λ κs a m n. let e = same (m .meets) (n .meets) in (λ i. e i .answer, λ i. (e i .store, (e i .walked, (tt, tt)))) };
+      koyDiagnosticsStep = together (λ κs a x y u v e. (λ i. e i .code, λ i. (tt, (tt, (e i .cursor, (e i .told, tt))))));
+      koyDiagnosticsFill = together (λ κs a x y u v e. (λ i. e i .answer, λ i. (e i .store, (e i .walked, (tt, tt)))));
       koyDiagnosticsModule = fixed (λ κs a u v. refl);
-      koySettingsRead = record { one = λ κs a m n. let e = same (m .meets) (n .meets) in (λ i. e i .code, λ i. (tt, (e i .told, tt))) };
-      koySettingsWrite = record { one = λ κs a m n. let e = same (m .meets) (n .meets) in (λ i. e i .code, λ i. (tt, (tt, (tt, (e i .buffer, (e i .told, tt)))))) };
-      koyInitiatorNew = record { one = λ κs a m n. let e = same (m .meets) (n .meets) in (λ i. e i .code, λ i. (e i .state, (tt, (tt, (tt, tt))))) };
-      koyInitiatorSubmit = record { one = λ κs a m n. let e = same (m .meets) (n .meets) in (λ i. e i .code, λ i. (e i .state, (tt, (e i .buffer, (e i .told, tt))))) };
-      koyInitiatorSilence = record { one = λ κs a m n. let e = same (m .meets) (n .meets) in (λ i. e i .code, λ i. (e i .state, (e i .buffer, (e i .told, tt)))) };
-      koyInitiatorHear = record { one = λ κs a m n. let e = same (m .meets) (n .meets) in (λ i. e i .code, λ i. (e i .state, (tt, (e i .buffer, (e i .told, tt))))) };
-      koyInitiatorRestart = record { one = λ κs a m n. let e = same (m .meets) (n .meets) in (λ i. e i .code, λ i. (e i .state, (e i .told, tt))) };
-      koyResponderNew = record { one = λ κs a m n. let e = same (m .meets) (n .meets) in (λ i. e i .code, λ i. (e i .state, (tt, (tt, tt)))) };
-      koyResponderHear = record { one = λ κs a m n. let e = same (m .meets) (n .meets) in (λ i. e i .code, λ i. (e i .state, (tt, (e i .buffer, (e i .told, tt))))) };
-      koyResponderAnswer = record { one = λ κs a m n. let e = same (m .meets) (n .meets) in (λ i. e i .code, λ i. (e i .state, (tt, (e i .buffer, (e i .told, tt))))) };
+      koySettingsRead = together (λ κs a x y u v e. (λ i. e i .code, λ i. (tt, (e i .told, tt))));
+      koySettingsWrite = together (λ κs a x y u v e. (λ i. e i .code, λ i. (tt, (tt, (tt, (e i .buffer, (e i .told, tt)))))));
+      koyInitiatorNew = together (λ κs a x y u v e. (λ i. e i .code, λ i. (e i .state, (tt, (tt, (tt, tt))))));
+      koyInitiatorSubmit = together (λ κs a x y u v e. (λ i. e i .code, λ i. (e i .state, (tt, (e i .buffer, (e i .told, tt))))));
+      koyInitiatorSilence = together (λ κs a x y u v e. (λ i. e i .code, λ i. (e i .state, (e i .buffer, (e i .told, tt)))));
+      koyInitiatorHear = together (λ κs a x y u v e. (λ i. e i .code, λ i. (e i .state, (tt, (e i .buffer, (e i .told, tt))))));
+      koyInitiatorRestart = together (λ κs a x y u v e. (λ i. e i .code, λ i. (e i .state, (e i .told, tt))));
+      koyResponderNew = together (λ κs a x y u v e. (λ i. e i .code, λ i. (e i .state, (tt, (tt, tt)))));
+      koyResponderHear = together (λ κs a x y u v e. (λ i. e i .code, λ i. (e i .state, (tt, (e i .buffer, (e i .told, tt))))));
+      koyResponderAnswer = together (λ κs a x y u v e. (λ i. e i .code, λ i. (e i .state, (tt, (e i .buffer, (e i .told, tt))))));
       koyResponderRestart = left (λ κs x y. refl) (λ κs a u v p i. (p i, tt));
     }

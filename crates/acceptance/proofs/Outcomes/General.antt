@@ -3,7 +3,7 @@
 -- Assumes nothing.
 use mathlib.Core.Path.{_≡_, sym, _∙_}
 use denote.Triple.Clauses.{Ended, Lasts, AtExit, atExit}
-use Rattle.acceptance.specs.OneOutcome.{Lives, Given, Result, OneOutcome, OneShown}
+use Rattle.acceptance.specs.OneOutcome.{Lives, Given, Result, Promise, OneOutcome, OneShown}
 
 -- what one equation fixes is one value
 pub same : {A : Type 0} {x y b : A} → x ≡ b → y ≡ b → x ≡ y
@@ -48,21 +48,25 @@ module _ {call : Ended} where
   pub left : {B : Type 0} {lent : (κs : Lives call) → AtExit call κs → B} {after : Made call (λ κs. B)} → ((κs : Lives call) (x y : Result call κs) → x ≡ y) → KnownBy call lent → OneOutcome call (λ κs a x e. lent κs e ≡ after κs a)
   left nothing known = record { one = λ κs a m n. (nothing κs (m .result) (n .result), known κs a (m .last) (n .last) (same (m .meets) (n .meets))) }
 
-  -- One for each of the two.
-  pub wrote : {A B : Type 0} {shown : (κs : Lives call) → Result call κs → A} {value : Made call (λ κs. A)} {lent : (κs : Lives call) → AtExit call κs → B} {after : Made call (λ κs. B)} → ToldApart call shown → KnownBy call lent → OneOutcome call (λ κs a x e. (shown κs x ≡ value κs a) × (lent κs e ≡ after κs a))
-  wrote apart known =
-      record {
-        one = λ κs a m n. (
-          told (apart κs) (m .meets .0) (n .meets .0),
-          known κs a (m .last) (n .last) (same (m .meets .1) (n .meets .1)),
-        );
-      }
-
-  -- One equation for both together.
-  pub turned : {A B : Type 0} {shown : (κs : Lives call) → Result call κs → B → A} {value : Made call (λ κs. A)} {lent : (κs : Lives call) → AtExit call κs → B} → ((κs : Lives call) (x y : Result call κs) (b c : B) → shown κs x b ≡ shown κs y c → (x ≡ y) × (b ≡ c)) → KnownBy call lent → OneOutcome call (λ κs a x e. shown κs x (lent κs e) ≡ value κs a)
-  turned apart known =
+  -- One for each of the two, which the promise gives.
+  pub gives : {promise : Promise call} {A B : Type 0} {shown : (κs : Lives call) → Result call κs → A} {value : Made call (λ κs. A)} {lent : (κs : Lives call) → AtExit call κs → B} {after : Made call (λ κs. B)} → ((κs : Lives call) (a : Given call κs) (x : Result call κs) (e : AtExit call κs) → promise κs a x e → (shown κs x ≡ value κs a) × (lent κs e ≡ after κs a)) → ToldApart call shown → KnownBy call lent → OneOutcome call promise
+  gives {promise} both apart known =
       record {
         one = λ κs a m n.
-            let both = apart κs _ _ _ _ (same (m .meets) (n .meets)) in
-            (both .0, known κs a (m .last) (n .last) (both .1));
+            let p = both κs a _ _ (m .meets) in
+            let q = both κs a _ _ (n .meets) in
+            (told (apart κs) (p .0) (q .0), known κs a (m .last) (n .last) (same (p .1) (q .1)));
       }
+
+  -- The promise is the two.
+  pub wrote : {A B : Type 0} {shown : (κs : Lives call) → Result call κs → A} {value : Made call (λ κs. A)} {lent : (κs : Lives call) → AtExit call κs → B} {after : Made call (λ κs. B)} → ToldApart call shown → KnownBy call lent → OneOutcome call (λ κs a x e. (shown κs x ≡ value κs a) × (lent κs e ≡ after κs a))
+  wrote apart known = gives (λ κs a x e p. p) apart known
+
+  -- One equation for the result and all that is lent.
+  pub together : {A : Type 0} {all : (κs : Lives call) → Result call κs → AtExit call κs → A} {value : Made call (λ κs. A)} → ((κs : Lives call) (a : Given call κs) (x y : Result call κs) (u v : Lasts call κs a) → all κs x (atExit call κs a u) ≡ all κs y (atExit call κs a v) → (x ≡ y) × (u ≡ v)) → OneOutcome call (λ κs a x e. all κs x e ≡ value κs a)
+  together apart = record { one = λ κs a m n. apart κs a _ _ _ _ (same (m .meets) (n .meets)) }
+
+  -- The same where all that is lent is known by one thing of it.
+  pub turned : {A B : Type 0} {shown : (κs : Lives call) → Result call κs → B → A} {value : Made call (λ κs. A)} {lent : (κs : Lives call) → AtExit call κs → B} → ((κs : Lives call) (x y : Result call κs) (b c : B) → shown κs x b ≡ shown κs y c → (x ≡ y) × (b ≡ c)) → KnownBy call lent → OneOutcome call (λ κs a x e. shown κs x (lent κs e) ≡ value κs a)
+  turned apart known =
+      together (λ κs a x y u v e. let both = apart κs x y _ _ e in (both .0, known κs a u v (both .1)))

@@ -1,4 +1,4 @@
--- No second outcome fits the promise of a public call of `link_telegrams`, `initiator`, `responder_row` and `responder`.
+-- No second outcome fits the promise of a public call of `link_rules`, `link_telegrams`, `initiator`, `responder_row` and `responder`.
 -- Assumes nothing.
 use mathlib.Core.List.{[]}
 use mathlib.Core.Path.{refl}
@@ -21,6 +21,9 @@ use Rattle.initiator.proofs.state.Initiator.with_default_tries as withDefaultTr
 use Rattle.initiator.proofs.state.Phase.frame_count_bit as phaseFrameCountBit
 use Rattle.initiator.proofs.state.Phase.is_pending as isPending
 use Rattle.initiator.proofs.state.Phase.tries_used as triesUsed
+use Rattle.link_rules.proofs.wrong_addresses as wrongAddresses
+use Rattle.link_rules.proofs.wrong_length as wrongLength
+use Rattle.link_rules.proofs.wrong_tries as wrongTries
 use Rattle.link_telegrams.proofs.headers.Bit.cycle as bitCycle
 use Rattle.link_telegrams.proofs.headers.Bit.frame_count_bit as bitFrameCountBit
 use Rattle.link_telegrams.proofs.headers.ok_header as okHeader
@@ -49,6 +52,9 @@ use Rattle.responder.proofs.state.Responder.restart as responderRestart
 use Rattle.responder.proofs.state.Responder.row as row
 
 pub record Links : Type 0 where
+  pub wrongAddresses : OneOutcome wrongAddresses.ended wrongAddresses.Reads.Learnt
+  pub wrongTries : OneOutcome wrongTries.ended wrongTries.Reads.Learnt
+  pub wrongLength : OneOutcome wrongLength.ended wrongLength.Reads.Learnt
   pub bitFrameCountBit : OneOutcome bitFrameCountBit.ended bitFrameCountBit.Reads.Learnt
   pub bitCycle : OneOutcome bitCycle.ended bitCycle.Reads.Learnt
   pub openingHeader : OneOutcome openingHeader.ended openingHeader.Reads.Learnt
@@ -95,6 +101,9 @@ pub record Links : Type 0 where
 pub links : Links
 links =
     record {
+      wrongAddresses = fixed (λ κs a u v. refl);
+      wrongTries = fixed (λ κs a u v. refl);
+      wrongLength = fixed (λ κs a u v. refl);
       bitFrameCountBit = fixed (λ κs a u v. refl);
       bitCycle = fixed (λ κs a u v. refl);
       openingHeader = fixed (λ κs a u v. refl);

@@ -30,6 +30,9 @@ use Rattle.responder.specs.declared.calls.ResponderTurn.{ResponderTurn}
 use Rattle.responder_row.specs.declared.row.Row.{Row}
 use Rattle.responder_row.specs.declared.row.RowAnswered.{RowAnswered}
 use Rattle.responder.specs.declared.state.ResponderMade.{ResponderMade}
+use Rattle.stage.specs.Stages.{shownInitiatorStep, shownResponderStep}
+use Rattle.stage.specs.declared.state.InitiatorStep.{InitiatorStep}
+use Rattle.stage.specs.declared.state.ResponderStep.{ResponderStep}
 
 -- the refusal that a number stands for
 abbrev refusalIn : Answer → Refusal
@@ -84,6 +87,10 @@ head-turn-told x y b c e = (
 pub head-made-told : (x y : InitiatorMade) → headRecord.shownMade x ≡ headRecord.shownMade y → x ≡ y
 head-made-told x y e i = record { answer = shown-injective (x .answer) (y .answer) (λ j. e j .number) i; initiator = e i .initiator }
 
+-- and one on a stage
+pub head-step-told : (x y : InitiatorStep) → shownInitiatorStep x ≡ shownInitiatorStep y → x ≡ y
+head-step-told x y e i = record { answer = head-told (x .answer) (y .answer) (λ j. e j .said) i; stage = e i .stage }
+
 -- the same of the responder
 abbrev cabinetBack : cabinet.Said → ResponderAnswer
 cabinetBack (cabinet.sent n) = cabinetAnswer.Sent n
@@ -108,6 +115,9 @@ cabinet-turn-told x y b c e = (
 
 pub cabinet-made-told : (x y : ResponderMade) → cabinetRecord.shownMade x ≡ cabinetRecord.shownMade y → x ≡ y
 cabinet-made-told x y e i = record { answer = shown-injective (x .answer) (y .answer) (λ j. e j .number) i; responder = e i .responder }
+
+pub cabinet-step-told : (x y : ResponderStep) → shownResponderStep x ≡ shownResponderStep y → x ≡ y
+cabinet-step-told x y e i = record { answer = cabinet-told (x .answer) (y .answer) (λ j. e j .said) i; stage = e i .stage }
 
 -- an answer to a row: the number tells the refusals apart, and no number is one that was done
 in-told : (a b : Answer) (p q : Row) → shownIn a p ≡ shownIn b q → a ≡ b

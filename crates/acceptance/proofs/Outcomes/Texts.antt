@@ -2,7 +2,7 @@
 -- Assumes nothing.
 use denote.Ref.{now}
 use mathlib.Core.Path.{refl}
-use Rattle.acceptance.proofs.Outcomes.General.{fixed, left, same, seen, shows, told}
+use Rattle.acceptance.proofs.Outcomes.General.{fixed, gives, left, seen, shows}
 use Rattle.acceptance.specs.OneOutcome.{OneOutcome, OneShown}
 use Rattle.buffers.proofs.copy_to_front as copyToFront
 use Rattle.listing.proofs.OneAnswer.{listed-one}
@@ -41,17 +41,17 @@ pub texts : Texts
 texts =
     record {
       copyToFront = left (λ κs x y. refl) (λ κs a u v p i. (tt, (p i, tt)));
-      putByte = record { one = λ κs a m n. (same (m .meets .place) (n .meets .place), λ i. (same (m .meets .buffer) (n .meets .buffer) i, (tt, (tt, tt)))) };
-      putBytes = record { one = λ κs a m n. (same (m .meets .place) (n .meets .place), λ i. (same (m .meets .buffer) (n .meets .buffer) i, (tt, (tt, tt)))) };
-      putHex = record { one = λ κs a m n. (same (m .meets .place) (n .meets .place), λ i. (same (m .meets .buffer) (n .meets .buffer) i, (tt, (tt, tt)))) };
-      putDecimal = record { one = λ κs a m n. (same (m .meets .place) (n .meets .place), λ i. (same (m .meets .buffer) (n .meets .buffer) i, (tt, (tt, tt)))) };
+      putByte = gives (λ κs a x e p. (p .place, p .buffer)) (λ κs x y e. e) (λ κs a u v p i. (p i, (tt, (tt, tt))));
+      putBytes = gives (λ κs a x e p. (p .place, p .buffer)) (λ κs x y e. e) (λ κs a u v p i. (p i, (tt, (tt, tt))));
+      putHex = gives (λ κs a x e p. (p .place, p .buffer)) (λ κs x y e. e) (λ κs a u v p i. (p i, (tt, (tt, tt))));
+      putDecimal = gives (λ κs a x e p. (p .place, p .buffer)) (λ κs x y e. e) (λ κs a u v p i. (p i, (tt, (tt, tt))));
       decimalLen = fixed (λ κs a u v. refl);
       getDecimal = fixed (λ κs a u v. refl);
       byteIsAt = fixed (λ κs a u v. refl);
       beginsAt = fixed (λ κs a u v. refl);
       readSettings = seen (λ κs. read-one) (λ κs a u v. refl);
-      writeSettings = record { one = λ κs a m n. (told write-one (m .meets .result) (n .meets .result), λ i. (tt, (same (m .meets .buffer) (n .meets .buffer) i, tt))) };
-      list = record { one = λ κs a m n. (told listed-one (m .meets .result) (n .meets .result), λ i. (tt, (same (m .meets .buffer) (n .meets .buffer) i, tt))) };
-      output = record { one = λ κs a m n. (told listed-one (m .meets .result) (n .meets .result), λ i. (tt, (same (m .meets .buffer) (n .meets .buffer) i, tt))) };
+      writeSettings = gives (λ κs a x e p. (p .result, p .buffer)) (λ κs. write-one) (λ κs a u v p i. (tt, (p i, tt)));
+      list = gives (λ κs a x e p. (p .result, p .buffer)) (λ κs. listed-one) (λ κs a u v p i. (tt, (p i, tt)));
+      output = gives (λ κs a x e p. (p .result, p .buffer)) (λ κs. listed-one) (λ κs a u v p i. (tt, (p i, tt)));
       listedText = shows (λ κs a u v. refl);
     }

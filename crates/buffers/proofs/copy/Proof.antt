@@ -1,34 +1,36 @@
 -- `copy` meets its contract. The invariant: the buffer begins with what was copied and goes on as it was.
 -- Assumes nothing.
 use borrow.Author.Needs.{needs}
-use mathlib.Core.Path.{_≡_}
-use mathlib.Core.List.{_++_}
+use mathlib.Core.Path.{_≡_, refl}
 use Prim.Native.Nat.{_≤_, _-_}
 use native.Mathlib.Omega.{arith}
-use lib.ListN.{length, take, drop, length-set}
-use Rattle.buffers.proofs.FrontLaws.{copy-done, copy-turn}
+use lib.ListN.{length, length-set}
+use Rattle.buffers.proofs.FrontLaws.{Copied, copy-starts, copy-goes-on, copy-ends}
 use Rattle.buffers.proofs.copy.Statement.{statement}
 use Rattle.buffers.proofs.copy.Tie as tie
 
 abbrev Inv-loop : tie.InvT-loop
 Inv-loop bytes buffer₀ i₀ buffer i =
-    (i ≤ length bytes) × (buffer ≡ take i bytes ++ drop i buffer₀) × (length buffer ≡ length buffer₀)
+    (i ≤ length bytes) × Copied bytes buffer₀ i buffer × (length buffer ≡ length buffer₀)
 
 abbrev μ-loop : tie.MeasureT-loop
 μ-loop bytes buffer₀ i₀ buffer i = length bytes - i
+
+loop-holds : tie.Need-loop-holds Inv-loop μ-loop
+loop-holds c = (omega arith, copy-starts _ _, refl)
 
 loop-again : tie.Need-loop-again Inv-loop μ-loop
 loop-again c =
     let l = c .before .before in (
       omega arith,
-      rw (l .loop .inv .1) (copy-turn _ _ _ (c .before .loop-test .taken) (l .before .pre)),
+      copy-goes-on _ _ _ _ (c .before .loop-test .taken) (l .before .pre) (l .loop .inv .1),
       simp length-set (l .loop .inv .2),
     )
 
 returns : tie.Need-returns Inv-loop μ-loop
 returns c =
     let l = c .before in
-    copy-done _ _ _ _ (l .loop .inv .0) (c .loop-test .left) (l .loop .inv .1)
+    copy-ends _ _ _ _ (l .loop .inv .0) (c .loop-test .left) (l .loop .inv .1)
 
 pub copy-spec : {M : Type 1} → statement M
 copy-spec =
@@ -36,7 +38,7 @@ copy-spec =
     (tie.spec
     Inv-loop
     μ-loop
-    (λ c. search needs)
+    loop-holds
     (λ c. search needs)
     (λ c. search needs)
     (λ c. search needs)

@@ -11,7 +11,7 @@ use Rattle.link.specs.Safe.{Safe}
 use Rattle.link.specs.Demand.{Demand}
 use Rattle.link.specs.Ours.{Cabinet, cabinetOf, ourHead, ourCabinet}
 use Rattle.link.proofs.Scenes.{Doing, order as orders, silence, headRestarts, answer, cabinetRestarts, cabinetMade, toCabinet, toHead, shortCabinet, andReached, P, ends, unsafe, unopened}
-use Rattle.link.proofs.Wrong.Tools.{two-tries, three-tries, never-done, done-twice, other-reply, reply-unmade, other-bytes}
+use Rattle.link.proofs.Wrong.Tools.{two-tries, three-tries, never-done, done-twice, other-reply, reply-unmade, other-bytes, other-order}
 
 -- the demand is refuted for this cabinet
 abbrev Refuted : Cabinet Message → Type 0
@@ -177,6 +177,36 @@ old-reply-with-the-hand-up = fails (taking oldAtOnce) second reply-unmade
 -- it hands up other bytes than it heard
 pub hands-up-other-bytes : Refuted (taking (λ r b q. handsUp b (9 ∷ [])))
 hands-up-other-bytes = fails (taking (λ r b q. handsUp b (9 ∷ []))) (first []) (other-bytes tt)
+
+-- it carries each order out when the next one comes: beside the row stands the order that it heard last
+abbrev Behind : Type 0
+Behind = Row × Bytes
+
+abbrev lastHeard : Message → Bytes → Bytes
+lastHeard opening p = p
+lastHeard ok p = p
+lastHeard (order b q) p = q
+lastHeard (reply r) p = p
+lastHeard other p = p
+
+abbrev toldLate : Bytes → Told Bytes → Told Bytes
+toldLate p refused = refused
+toldLate p nothing = nothing
+toldLate p (tells q) = tells p
+
+abbrev hearsBehind : Behind → Message → Turn Behind Message Bytes
+hearsBehind r m =
+    let t = rowHears (r .0) m in
+    record { next = (t .next, lastHeard m (r .1)); writes = t .writes; says = toldLate (r .1) (t .says) }
+
+abbrev answersBehind : Behind → Bytes → Turn Behind Message Bytes
+answersBehind r p =
+    let t = rowAnswers (r .0) p in
+    record { next = (t .next, r .1); writes = t .writes; says = t .says }
+
+pub carries-out-the-order-before : Refuted (cabinetOf {E = Behind} (blank, []) hearsBehind answersBehind (λ r. (blank, [])))
+carries-out-the-order-before =
+    fails _ (first (answer (7 ∷ []) ∷ toHead ∷ orders (2 ∷ []) ∷ toCabinet ∷ [])) (other-order tt)
 
 -- it hands up again while the reply is owed
 abbrev owedAgain : Row → Bit → Bytes → RowTurn

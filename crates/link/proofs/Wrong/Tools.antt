@@ -1,4 +1,4 @@
--- How a history fails a clause of the first sentence; and wrong ends made from ours.
+-- How a history fails a clause of demand 3.
 -- Assumes nothing.
 use Prim.Native.Nat.{ℕ}
 use native.Mathlib.Omega.{arith}
@@ -6,12 +6,14 @@ use lib.Dec.{T, eqb, eqb-refl, T-not, lit≤}
 use lib.ListN.{getD}
 use mathlib.Core.Bool.{Bool, true, not, true≢false}
 use mathlib.Core.List.{List, [], _∷_}
-use mathlib.Core.Path.{_≡_, refl, ap, subst}
+use mathlib.Core.Path.{_≡_, refl, ap, subst, subst⁻¹}
 use Rattle.link.specs.Messages.{Bytes}
 use Rattle.link.specs.Turns.{Outcome, confirmed, notSent}
-use Rattle.link.specs.History.{Given, made, awaited, dropped, HandUp, handUp, Report, ended, Entry, entry, history}
+use Rattle.link.specs.History.{Given, made, awaited, dropped, HandUp, handUp, Report, ended, Entry, entry, History, history}
 use Rattle.link.specs.Line.{Permitted}
-use Rattle.link.specs.Safe.{triesOf, writtenOf, Safe}
+use Rattle.link.specs.Safe.{triesOf, writtenOf, entriesOf, Safe}
+use Rattle.link.specs.Live.{reportAt, Confirmed}
+use Rattle.link.proofs.Kept.{IsConfirmed}
 
 pub one-try : Permitted 1
 one-try = (lit≤ tt, lit≤ tt)
@@ -81,6 +83,16 @@ pub other-bytes :
     → Safe (history (entry (b ∷ []) (handUp (a ∷ []) g ∷ us) t o n ∷ es) cs x) → ⊥
 other-bytes {a} {b} y s = differ a b y (ap (λ p. getD p 0 0) (s .byteForByte .0 .0))
 
+-- another order is carried out than the latest, by the first byte
+pub other-order :
+    {a b : ℕ} {u : HandUp} {us : List HandUp} {t : Report} {o n : ℕ} {es : List Entry} {cs : List Bytes} {x : Bool} → T (not (eqb a b))
+    → Safe (history (entry (b ∷ []) (u ∷ us) t o n ∷ es) ((a ∷ []) ∷ cs) x) → ⊥
+other-order {a} {b} y s = differ a b y (ap (λ ps. getD (getD ps 0 []) 0 0) (s .inOrder))
+
 -- an outcome is reported with no order pending
 pub second-outcome : {es : List Entry} {cs : List Bytes} → Safe (history es cs true) → ⊥
 second-outcome s = true≢false (s .oneOutcome)
+
+-- an order that the last sentence wants confirmed is not
+pub not-confirmed : (n : ℕ) (h : History) → (IsConfirmed (reportAt n (entriesOf h)) → ⊥) → Confirmed n h → ⊥
+not-confirmed n h bad e = bad (subst⁻¹ IsConfirmed (e .2) tt)

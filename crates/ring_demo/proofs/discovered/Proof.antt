@@ -2,12 +2,11 @@
 -- Assumes nothing.
 use mathlib.Core.Path.{ap, _∙_}
 use borrow.Author.Needs.{needs}
-use Rattle.token_ring.specs.Rules.{made, witnessed}
+use Rattle.token_ring.specs.Rules.{witnessed}
 use Rattle.ring_demo.proofs.discovered.Statement.{statement}
 use Rattle.ring_demo.proofs.discovered.Tie as tie
 
 returns : tie.Need-returns
-unfolding made
 returns c =
     c .witness-token-pass4 .ensures
     ∙ ap (witnessed 9 2) (c .before .witness-token-pass3 .ensures

@@ -10,7 +10,8 @@ returns : tie.Need-returns
 returns c =
     c .witness-token-pass3 .ensures
     ∙ ap (witnessed 9 2) (c .before .witness-token-pass2 .ensures
-    ∙ ap (witnessed 5 9) (c .before .before .witness-token-pass .ensures))
+    ∙ ap (witnessed 5 9) (c .before .before .witness-token-pass .ensures
+    ∙ ap (witnessed 2 5) (c .before .before .before .pre)))
 
 pub verified-spec : {M : Type 1} → statement M
 verified-spec = tie.close (tie.spec (λ c κs. search needs) (λ c κs. search needs) (λ c κs. search needs) returns)

@@ -2,6 +2,7 @@
 -- Assumes nothing.
 use borrow.Author.Needs.{needs}
 use mathlib.Core.Path.{sym, _∙_}
+use native.Mathlib.Omega.{arith}
 use Rattle.diagnostics.proofs.Headers.{block-device, block-identifier}
 use Rattle.diagnostics.proofs.walk.sized_block.Statement.{statement}
 use Rattle.diagnostics.proofs.walk.sized_block.Tie as tie
@@ -13,9 +14,8 @@ returns c =
 
 returns-2 : tie.Need-returns-2
 returns-2 c =
-    let start = c .before .before in
-    let kind = start .pre .1 in
-    λ s. rw (c .before .block-size .ensures) (sym (block-device s _ _ (rw kind (start .pre .2)) (rw kind (c .if1 .left))))
+    let kind = c .before .before .pre .1 in
+    λ s. rw (c .before .block-size .ensures) (sym (block-device s _ _ (rw kind (c .if1 .left)) (λ e. omega arith)))
 
 pub sized-block-spec : {M : Type 1} → statement M
 sized-block-spec =

@@ -7,20 +7,16 @@ use Rattle.exported_link.proofs.initiator_end.finish.Tie as tie
 
 refused : tie.Need-returns
 unfolding crossed
-refused c buf = rw (← c .before .is-refused .ensures, c .if1 .taken, c .before .before .code-of .ensures)
+refused c buf =
+    let code = c .before .before .code-of .ensures in
+    rw (← code, ← c .before .is-refusal .ensures, c .if1 .taken)
 
 accepted : tie.Need-returns-2
 unfolding crossed
 accepted c buf =
     let t = c .before .before .before in
     let e = t .before in
-    rw (
-      ← e .before .is-refused .ensures,
-      e .if1 .left,
-      c .pack .ensures,
-      t .told-of .ensures,
-      e .before .before .code-of .ensures,
-    )
+    rw (← e .before .before .code-of .ensures, ← e .before .is-refusal .ensures, e .if1 .left, c .pack .ensures, t .told-of .ensures)
 
 pub finish-spec : {M : Type 1} → statement M
 finish-spec = tie.close (tie.spec (λ c κs. search needs) (λ c κs. search needs) refused (λ c κs. search needs) (λ c κs. search needs) accepted)

@@ -8,13 +8,13 @@ returns : tie.Need-returns
 returns c = rw (c .before .answer .given .1)
 
 returns-2 : tie.Need-returns-2
-returns-2 c = rw (c .before .before .answer2 .given .1, c .wide .ensures)
+returns-2 c = rw (c .before .answer2 .given .1)
 
 returns-3 : tie.Need-returns-3
-returns-3 c = rw (c .before .before .answer3 .given .1, c .wide2 .ensures)
+returns-3 c = rw (c .before .answer3 .given .1)
 
 returns-4 : tie.Need-returns-4
-returns-4 c = rw (c .before .before .answer4 .given .1, c .wide3 .ensures)
+returns-4 c = rw (c .before .answer4 .given .1)
 
 returns-5 : tie.Need-returns-5
 returns-5 c = rw (c .enum-told .given .1)
@@ -23,4 +23,4 @@ returns-6 : tie.Need-returns-6
 returns-6 c = rw (c .enum-told2 .given .1)
 
 pub told-of-spec : {M : Type 1} → statement M
-told-of-spec = tie.close (tie.spec (λ c. search needs) (λ c. search needs) (λ c κs. search needs) (λ c. search needs) (λ c κs. search needs) (λ c. search needs) (λ c κs. search needs) (λ c. search needs) (λ c. search needs) returns returns-2 returns-3 returns-4 returns-5 returns-6)
+told-of-spec = tie.close (tie.spec (λ c. search needs) (λ c. search needs) (λ c. search needs) (λ c. search needs) (λ c. search needs) (λ c. search needs) (λ c. search needs) (λ c. search needs) (λ c. search needs) returns returns-2 returns-3 returns-4 returns-5 returns-6)

@@ -6,14 +6,13 @@ use borrow.Author.Needs.{needs}
 use Rattle.exported_link.proofs.initiator_end.unpack.Statement.{statement}
 use Rattle.exported_link.proofs.initiator_end.unpack.Tie as tie
 
-full : (c : tie.After-from-parts) → length (c .before .before .before .before .before .args .t1) ≡ 252
+full : (c : tie.After-from-parts) → length (c .before .before .before .before .args .t1) ≡ 252
 full c = search needs
 
 returns : tie.Need-returns
 returns c =
-    let w = c .before in
-    let t = w .before in
-    (c .from-parts .ensures ∙ rw (w .wide .ensures, t .tail .ensures, t .before .before .phase-of .ensures), full c)
+    let t = c .before in
+    (c .from-parts .ensures ∙ rw (t .tail .ensures, t .before .before .phase-of .ensures), full c)
 
 pub unpack-spec : {M : Type 1} → statement M
-unpack-spec = tie.close (tie.spec (λ c. search needs) (λ c. search needs) (λ c κs. search needs) (λ c. search needs) (λ c κs. search needs) (λ c. search needs) (λ c κs. search needs) (λ c. search needs) (λ c. search needs) (λ c. search needs) (λ c κs. search needs) returns)
+unpack-spec = tie.close (tie.spec (λ c. search needs) (λ c. search needs) (λ c κs. search needs) (λ c. search needs) (λ c κs. search needs) (λ c. search needs) (λ c. search needs) (λ c. search needs) (λ c. search needs) (λ c. search needs) (λ c κs. search needs) returns)

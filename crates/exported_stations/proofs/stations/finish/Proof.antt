@@ -1,15 +1,20 @@
--- `finish` meets its contract: what the call answers decides.
+-- `finish` meets its contract: the test is that of `crossed`, on what the call answers.
 -- Assumes nothing.
-use Rattle.exported_stations.proofs.CallLaws.{done, refused}
+use borrow.Author.Tests.{lt-ltb, le-ltb}
+use Rattle.exported_stations.specs.Calls.{crossed}
 use borrow.Author.Needs.{needs}
 use Rattle.exported_stations.proofs.stations.finish.Statement.{statement}
 use Rattle.exported_stations.proofs.stations.finish.Tie as tie
 
-was-done : tie.Need-returns
-was-done c = rw (c .pack .ensures) (done _ _ _ (c .before .before .enum-told .given .1))
+refused : tie.Need-returns
+unfolding crossed
+refused c = rw (← c .before .number .ensures, lt-ltb _ _ (c .if1 .taken))
 
-was-refused : tie.Need-returns-2
-was-refused c = rw (c .number .ensures) (refused _ _ _ _ (c .before .before .answer .given .1))
+done : tie.Need-returns-2
+unfolding crossed
+done c =
+    let e = c .before .before in
+    rw (← e .before .number .ensures, le-ltb _ _ (e .if1 .left), c .pack .ensures)
 
 pub finish-spec : {M : Type 1} → statement M
-finish-spec = tie.close (tie.spec (λ c. search needs) (λ c κs. search needs) (λ c. search needs) (λ c κs. search needs) was-done was-refused)
+finish-spec = tie.close (tie.spec (λ c κs. search needs) refused (λ c κs. search needs) done)

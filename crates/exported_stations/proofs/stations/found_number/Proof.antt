@@ -5,10 +5,10 @@ use Rattle.exported_stations.proofs.stations.found_number.Statement.{st
 use Rattle.exported_stations.proofs.stations.found_number.Tie as tie
 
 station : tie.Need-returns
-station c = rw (c .before .before .found .given .1, c .wide .ensures)
+station c = rw (c .before .before .found .given .1)
 
 nothing : tie.Need-returns-2
 nothing c = rw (c .enum-told .given .1)
 
 pub found-number-spec : {M : Type 1} → statement M
-found-number-spec = tie.close (tie.spec (λ c. search needs) (λ c κs. search needs) (λ c. search needs) station nothing)
+found-number-spec = tie.close (tie.spec (λ c. search needs) (λ c. search needs) (λ c. search needs) station nothing)

@@ -6,10 +6,10 @@ use Rattle.exported_telegrams.proofs.writing.sap_of.Statement.{statemen
 use Rattle.exported_telegrams.proofs.writing.sap_of.Tie as tie
 
 some : tie.Need-returns
-some c = rw (lt-ltb _ _ (c .if1 .taken))
+some c = rw (lt-ltb _ 256 (c .if1 .taken))
 
 none : tie.Need-returns-2
-none c = rw (le-ltb _ _ (c .if1 .left))
+none c = rw (le-ltb _ 256 (c .if1 .left))
 
 pub sap-of-spec : {M : Type 1} → statement M
 sap-of-spec = tie.close (tie.spec (λ c. search needs) some none)

@@ -1,13 +1,19 @@
 -- `order_header` meets its contract: it is the plain header of its code.
 -- Assumes nothing.
 use borrow.Author.Needs.{needs}
-use Rattle.link_telegrams.specs.Headers.{orderHeader}
+use mathlib.Core.Path.{_∙_, ap}
+use Rattle.codes.specs.declared.frame_count_bit.FrameCountBit.{FrameCountBit}
+use Rattle.codes.specs.declared.function_code.FunctionCode.the-variants.{Request}
+use Rattle.codes.specs.declared.request_type.RequestType.the-variants.{SrdLow}
+use Rattle.link_telegrams.specs.Headers.{plainHeader, orderHeader}
 use Rattle.link_telegrams.proofs.headers.order_header.Statement.{statement}
 use Rattle.link_telegrams.proofs.headers.order_header.Tie as tie
 
 returns : tie.Need-returns
 unfolding orderHeader
-returns c = rw (← c .before .before .frame-count-bit .ensures, ← c .before .new-srd-low .ensures) (c .plain-header .ensures)
+returns c =
+    c .plain-header .ensures
+    ∙ ap (plainHeader _ _) (c .before .new-srd-low .ensures ∙ ap (λ (f : FrameCountBit). Request f SrdLow) (c .before .before .frame-count-bit .ensures))
 
 pub order-header-spec : {M : Type 1} → statement M
 order-header-spec = tie.close (tie.spec (λ c κs. search needs) (λ c κs. search needs) (λ c κs. search needs) returns)

@@ -1,23 +1,26 @@
 -- `bears` meets its contract: its tests are those of `bearsOf`, in the same order.
 -- Assumes nothing.
+use mathlib.Core.Path.{sym}
 use borrow.Author.Needs.{needs}
-use borrow.Author.Tests.{eq-eqb, ne-eqb}
+use Rattle.link_telegrams.proofs.HeardCases as cases
 use Rattle.link_telegrams.proofs.heard.bears.Statement.{statement}
 use Rattle.link_telegrams.proofs.heard.bears.Tie as tie
 
 other-da : tie.Need-returns
-other-da c = rw (ne-eqb _ _ (c .if1 .taken))
+other-da c = sym (cases.other-da (c .before .before .before .args .h) _ _ (c .if1 .taken))
 
 other-sa : tie.Need-returns-2
-other-sa c = rw (eq-eqb _ _ (c .before .before .before .if1 .left), ne-eqb _ _ (c .if2 .taken))
+other-sa c =
+    let d = c .before .before .before in
+    sym (cases.other-sa (d .before .before .before .args .h) _ _ (d .if1 .left) (c .if2 .taken))
 
 with-ssap : tie.Need-returns-3
 with-ssap c =
     let p = c .before .before in
     let e = p .before in
+    let d = e .before .before .before in
     rw (
-      eq-eqb _ _ (e .before .before .before .if1 .left),
-      eq-eqb _ _ (e .if2 .left),
+      cases.both-named (d .before .before .before .args .h) _ _ (d .if1 .left) (e .if2 .left),
       ← p .has-no-sap .ensures,
       c .before .if3 .taken,
       ← c .has-no-sap2 .ensures,
@@ -27,9 +30,9 @@ with-dsap : tie.Need-returns-4
 with-dsap c =
     let p = c .before in
     let e = p .before in
+    let d = e .before .before .before in
     rw (
-      eq-eqb _ _ (e .before .before .before .if1 .left),
-      eq-eqb _ _ (e .if2 .left),
+      cases.both-named (d .before .before .before .args .h) _ _ (d .if1 .left) (e .if2 .left),
       ← p .has-no-sap .ensures,
       c .if3 .left,
     )

@@ -1,29 +1,34 @@
 -- `data_from` meets its contract: its tests are those of `dataFrom`, in the same order.
 -- Assumes nothing.
+use mathlib.Core.Path.{sym, _∙_}
 use borrow.Author.Needs.{needs}
-use borrow.Author.Tests.{eq-eqb, ne-eqb}
+use Rattle.link_telegrams.proofs.HeardCases as cases
 use Rattle.link_telegrams.proofs.heard.data_from.Statement.{statement}
 use Rattle.link_telegrams.proofs.heard.data_from.Tie as tie
 
 not-filling : tie.Need-returns
-not-filling c = rw (c .before .before .telegram .given .1, ne-eqb _ _ (c .if1 .taken))
+not-filling c =
+    let t = c .before .before in
+    let a = t .before .before .args in
+    rw (t .telegram .given .1) (sym (cases.not-filling _ _ (a .own) (a .peer) (t .telegram .given .0 .0) (c .if1 .taken)))
 
 ours : tie.Need-returns-2
 ours c =
     let b = c .before .before in
     let e = b .before .before in
-    rw (
-      e .before .before .telegram .given .1,
-      eq-eqb _ _ (e .if1 .left),
-      ← b .bears .ensures,
-      c .before .if2 .taken,
-    )
+    let t = e .before .before in
+    let a = t .before .before .args in
+    rw (t .telegram .given .1)
+    (sym (cases.filling-ours _ _ (a .own) (a .peer) (t .telegram .given .0 .0) (e .if1 .left) (sym (b .bears .ensures) ∙ c .before .if2 .taken)))
 
 not-ours : tie.Need-returns-3
 not-ours c =
     let b = c .before in
     let e = b .before .before in
-    rw (e .before .before .telegram .given .1, eq-eqb _ _ (e .if1 .left), ← b .bears .ensures, c .if2 .left)
+    let t = e .before .before in
+    let a = t .before .before .args in
+    rw (t .telegram .given .1)
+    (sym (cases.filling-not-ours _ _ (a .own) (a .peer) (t .telegram .given .0 .0) (e .if1 .left) (sym (b .bears .ensures) ∙ c .if2 .left)))
 
 pub data-from-spec : {M : Type 1} → statement M
 data-from-spec =

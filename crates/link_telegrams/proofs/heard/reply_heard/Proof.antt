@@ -2,8 +2,8 @@
 -- Assumes nothing.
 use mathlib.Core.Path.{sym, _∙_}
 use borrow.Author.Needs.{needs}
-use borrow.Author.Tests.{eq-eqb, ne-eqb}
 use Rattle.link_telegrams.specs.Heard.{replyHeardOf}
+use Rattle.link_telegrams.proofs.HeardCases as cases
 use Rattle.link_telegrams.proofs.heard.reply_heard.Statement.{statement}
 use Rattle.link_telegrams.proofs.heard.reply_heard.Tie as tie
 
@@ -23,13 +23,9 @@ of-a-slave c =
     let n = c .before .before in
     let q = n .before .before .before in
     let p = q .before .before .before in
-    rw (
-      ← p .before .before .from-peer .ensures,
-      p .fc .given .1,
-      q .fc2 .given .1,
-      eq-eqb _ _ (sym (n .before .number .ensures) ∙ c .before .if1 .taken ∙ n .number2 .ensures),
-    )
-    (c .slave .ensures)
+    rw (← p .before .before .from-peer .ensures, p .fc .given .1, q .fc2 .given .1)
+    (c .slave .ensures
+    ∙ sym (cases.of-a-slave (q .fc2 .given .0 .0) (q .fc2 .given .0 .1 .0) (p .fc .given .0 .1 .0) (sym (n .before .number .ensures) ∙ c .before .if1 .taken ∙ n .number2 .ensures)))
 
 another : tie.Need-returns-4
 unfolding replyHeardOf
@@ -37,12 +33,8 @@ another c =
     let n = c .before in
     let q = n .before .before .before in
     let p = q .before .before .before in
-    rw (
-      ← p .before .before .from-peer .ensures,
-      p .fc .given .1,
-      q .fc2 .given .1,
-      ne-eqb _ _ (λ e. c .if1 .left (n .before .number .ensures ∙ e ∙ sym (n .number2 .ensures))),
-    )
+    rw (← p .before .before .from-peer .ensures, p .fc .given .1, q .fc2 .given .1)
+    (sym (cases.another-state (q .fc2 .given .0 .0) (q .fc2 .given .0 .1 .0) (p .fc .given .0 .1 .0) (λ e. c .if1 .left (n .before .number .ensures ∙ e ∙ sym (n .number2 .ensures)))))
 
 pub reply-heard-spec : {M : Type 1} → statement M
 reply-heard-spec =

@@ -2,8 +2,8 @@
 -- Assumes nothing.
 use mathlib.Core.Path.{sym, _∙_}
 use borrow.Author.Needs.{needs}
-use borrow.Author.Tests.{eq-eqb, ne-eqb}
 use Rattle.link_telegrams.specs.Heard.{requestHeardOf}
+use Rattle.link_telegrams.proofs.HeardCases as cases
 use Rattle.link_telegrams.proofs.heard.request_heard.Statement.{statement}
 use Rattle.link_telegrams.proofs.heard.request_heard.Tie as tie
 
@@ -23,13 +23,9 @@ srd-low c =
     let n = c .before .before in
     let q = n .before .before .before in
     let p = q .before .before .before in
-    rw (
-      ← p .before .before .from-peer .ensures,
-      p .fc .given .1,
-      q .fc2 .given .1,
-      eq-eqb _ _ (sym (n .before .number .ensures) ∙ c .before .if1 .taken ∙ n .number2 .ensures),
-    )
-    (c .srd .ensures)
+    rw (← p .before .before .from-peer .ensures, p .fc .given .1, q .fc2 .given .1)
+    (c .srd .ensures
+    ∙ sym (cases.srd-low (q .fc2 .given .0 .0) (q .fc2 .given .0 .1 .0) (p .fc .given .0 .1 .0) (sym (n .before .number .ensures) ∙ c .before .if1 .taken ∙ n .number2 .ensures)))
 
 another : tie.Need-returns-4
 unfolding requestHeardOf
@@ -37,12 +33,8 @@ another c =
     let n = c .before in
     let q = n .before .before .before in
     let p = q .before .before .before in
-    rw (
-      ← p .before .before .from-peer .ensures,
-      p .fc .given .1,
-      q .fc2 .given .1,
-      ne-eqb _ _ (λ e. c .if1 .left (n .before .number .ensures ∙ e ∙ sym (n .number2 .ensures))),
-    )
+    rw (← p .before .before .from-peer .ensures, p .fc .given .1, q .fc2 .given .1)
+    (sym (cases.another-request (q .fc2 .given .0 .0) (q .fc2 .given .0 .1 .0) (p .fc .given .0 .1 .0) (λ e. c .if1 .left (n .before .number .ensures ∙ e ∙ sym (n .number2 .ensures)))))
 
 pub request-heard-spec : {M : Type 1} → statement M
 request-heard-spec =

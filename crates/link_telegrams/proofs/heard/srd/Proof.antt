@@ -1,14 +1,19 @@
 -- `srd` meets its contract: each arm names the variant that it is for, and First looks at the PDU's length.
 -- Assumes nothing.
-use borrow.Author.Tests.{eq-eqb, ne-eqb}
+use mathlib.Core.Path.{sym}
+use Rattle.link_telegrams.proofs.HeardCases.{first-empty, first-with-bytes}
 use Rattle.link_telegrams.proofs.heard.srd.Statement.{statement}
 use Rattle.link_telegrams.proofs.heard.srd.Tie as tie
 
 empty : tie.Need-returns
-empty c = rw (c .before .before .enum-told .given .1, eq-eqb _ _ (c .if1 .taken))
+empty c =
+    let t = c .before .before in
+    rw (t .enum-told .given .1) (sym (first-empty (t .before .before .args .pdu) (c .if1 .taken)))
 
 with-bytes : tie.Need-returns-2
-with-bytes c = rw (c .before .before .enum-told .given .1, ne-eqb _ _ (c .if1 .left))
+with-bytes c =
+    let t = c .before .before in
+    rw (t .enum-told .given .1) (sym (first-with-bytes (t .before .before .args .pdu) (c .if1 .left)))
 
 pub srd-spec : {M : Type 1} → statement M
 srd-spec =

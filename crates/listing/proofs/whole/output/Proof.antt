@@ -1,5 +1,6 @@
 -- `output` meets its contract: above the limit the line of refusal 22, else what `list` made.
 -- Assumes nothing.
+use native.Mathlib.Omega.{arith}
 use Rattle.listing.proofs.AnswerLaws.{output-refused, output-listed}
 use borrow.Author.Needs.{needs}
 use Rattle.listing.proofs.whole.output.Statement.{statement}
@@ -8,12 +9,12 @@ use Rattle.listing.proofs.whole.output.Tie as tie
 returns : tie.Need-returns
 returns c =
     let placed = c .before .before in
-    output-refused _ (placed .before .before .if1 .taken) (placed .put-refused .ensures)
+    output-refused _ (omega (arith, placed .before .before .if1 .taken)) (placed .put-refused .ensures)
 
 returns-2 : tie.Need-returns-2
 returns-2 c =
     let placed = c .before .before in
-    output-listed _ (placed .before .before .if1 .left) (placed .list .ensures)
+    output-listed _ (omega (arith, placed .before .before .if1 .left)) (placed .list .ensures)
 
 pub output-spec : {M : Type 1} → statement M
 output-spec =

@@ -1,18 +1,16 @@
--- `write_reply` meets its contract: what the writer answered and left goes into `wrote`.
+-- `write_reply` meets its contract: its telegram is written, by what the writer answered and left.
 -- Assumes nothing.
 use borrow.Author.Needs.{needs}
+use Rattle.responder.proofs.CallLaws.{writes}
 use Rattle.responder.proofs.moves.write_reply.Statement.{statement}
 use Rattle.responder.proofs.moves.write_reply.Tie as tie
 
 returns : tie.Need-returns
 returns c =
     let s = c .before .before .before in
-    rw (
-      s .send-data-telegram .ensures .1,
-      ← s .before .before .reply-header .ensures,
-      ← s .send-data-telegram .ensures .0,
-    )
-    (c .written .ensures _)
+    let start = s .before .before .before .before .before .before .before in
+    writes _ _ _ _ _ (start .args .buf .now) _ _ _ (s .before .before .reply-header .ensures) (s .send-data-telegram .ensures .0)
+    (s .send-data-telegram .ensures .1) (c .written .ensures _)
 
 pub write-reply-spec : {M : Type 1} → statement M
 write-reply-spec =

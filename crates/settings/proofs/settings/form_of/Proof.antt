@@ -1,11 +1,12 @@
 -- `form_of` meets its contract: the three lines, in the definition's order, and nothing behind them.
 -- Assumes nothing.
 use mathlib.Core.Path.{_≡_, sym, _∙_}
+use native.Mathlib.Omega.{arith}
 use borrow.Author.Needs.{needs}
 use denote.Ref.{now}
 use Rattle.settings.specs.declared.line.Line.the-variants as line
 use Rattle.settings.specs.Lines.{own=, peer=, tries=, lineAt}
-use Rattle.settings.proofs.FormLaws.{no-own, no-peer, no-tries, more-text, three-lines}
+use Rattle.settings.proofs.ReadingLaws.{no-own, no-peer, no-tries, more-text, three-lines}
 use Rattle.settings.proofs.settings.form_of.Statement.{statement}
 use Rattle.settings.proofs.settings.form_of.Tie as tie
 
@@ -45,7 +46,7 @@ returns-4 c =
     let third = c .before .before in
     let second = third .before .before .before .before .before in
     let first = second .before .before .before .before .before in
-    sym (three-lines _ (own first) (peer second) (tries third) (c .if1 .taken))
+    sym (three-lines _ (own first) (peer second) (tries third) (omega arith))
 
 returns-5 : tie.Need-returns-5
 returns-5 c =

@@ -1,7 +1,7 @@
 -- `put_text` meets its contract: the three lines are placed one behind the other.
 -- Assumes nothing.
 use borrow.Author.Needs.{needs}
-use Rattle.settings.proofs.FormLaws.{text-placed}
+use Rattle.settings.proofs.WritingLaws.{text-placed}
 use Rattle.settings.proofs.settings.put_text.Statement.{statement}
 use Rattle.settings.proofs.settings.put_text.Tie as tie
 

@@ -2,7 +2,7 @@
 -- Assumes nothing.
 use mathlib.Core.Path.{sym, _∙_}
 use borrow.Author.Needs.{needs}
-use Rattle.settings.proofs.FormLaws.{read-form, read-none}
+use Rattle.settings.proofs.ReadingLaws.{read-form, read-none}
 use Rattle.settings.proofs.settings.read_settings.Statement.{statement}
 use Rattle.settings.proofs.settings.read_settings.Tie as tie
 

@@ -6,7 +6,7 @@ use borrow.Author.Needs.{needs}
 use lib.ListN.{length}
 use Rattle.text.specs.Decimal.{decimalOf}
 use Rattle.text.proofs.DecimalLaws.{decimal-length}
-use Rattle.settings.proofs.FormLaws.{text-length}
+use Rattle.settings.proofs.WritingLaws.{text-length}
 use Rattle.settings.proofs.settings.text_len.Statement.{statement}
 use Rattle.settings.proofs.settings.text_len.Tie as tie
 

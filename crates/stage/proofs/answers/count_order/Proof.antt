@@ -6,10 +6,10 @@ use Rattle.stage.proofs.answers.count_order.Statement.{statement}
 use Rattle.stage.proofs.answers.count_order.Tie as tie
 
 taken : tie.Need-returns
-taken c = rw (lt-ltb _ _ (c .before .if1 .taken), c .one-more .ensures)
+taken c = rw (lt-ltb 0 _ (c .before .if1 .taken), c .one-more .ensures)
 
 left : tie.Need-returns-2
-left c = rw (le-ltb _ _ (c .if1 .left))
+left c = rw (le-ltb 0 _ (c .if1 .left))
 
 pub count-order-spec : {M : Type 1} → statement M
 count-order-spec =

@@ -6,10 +6,10 @@ use Rattle.stage.proofs.answers.one_more.Statement.{statement}
 use Rattle.stage.proofs.answers.one_more.Tie as tie
 
 less : tie.Need-returns
-less c = rw (lt-ltb _ _ (c .if1 .taken))
+less c = rw (lt-ltb _ 255 (c .if1 .taken))
 
 full : tie.Need-returns-2
-full c = rw (le-ltb _ _ (c .if1 .left))
+full c = rw (le-ltb _ 255 (c .if1 .left))
 
 pub one-more-spec : {M : Type 1} → statement M
 one-more-spec =

@@ -2,12 +2,13 @@
 -- Assumes nothing.
 use mathlib.Core.Path.{ap}
 use Rattle.initiator.specs.Records.{Made, madeOf}
+use Rattle.link_rules.specs.Rules.{wrongAddresses, wrongTries}
 use borrow.Author.Needs.{needs}
 use Rattle.stage.proofs.state.new_initiator.Statement.{statement}
 use Rattle.stage.proofs.state.new_initiator.Tie as tie
 
 returns : tie.Need-returns
-unfolding madeOf
+unfolding madeOf wrongAddresses wrongTries
 returns c = ap (λ (m : Made). m .initiator) (c .before .with-default-tries .ensures)
 
 pub new-initiator-spec : {M : Type 1} → statement M

@@ -2,12 +2,13 @@
 -- Assumes nothing.
 use mathlib.Core.Path.{ap}
 use Rattle.responder.specs.Records.{Made, madeOf}
+use Rattle.link_rules.specs.Rules.{wrongAddresses}
 use borrow.Author.Needs.{needs}
 use Rattle.stage.proofs.state.new_responder.Statement.{statement}
 use Rattle.stage.proofs.state.new_responder.Tie as tie
 
 returns : tie.Need-returns
-unfolding madeOf
+unfolding madeOf wrongAddresses
 returns c = ap (λ (m : Made). m .responder) (c .before .new .ensures)
 
 pub new-responder-spec : {M : Type 1} → statement M

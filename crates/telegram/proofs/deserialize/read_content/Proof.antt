@@ -1,56 +1,46 @@
--- `read_content` meets its contract: its tests are those of `contentOf`, in the same order.
+-- `read_content` meets its contract: each return is a case of steps 5 to 7.
 -- Assumes nothing.
+use mathlib.Core.Path.{sym}
+use native.Mathlib.Omega.{arith}
 use borrow.Author.Needs.{needs}
-use borrow.Author.Tests.{lt-ltb, le-ltb, eq-eqb, ne-eqb}
-use Rattle.telegram.specs.Reading.{contentOf}
+use Rattle.telegram.proofs.Answers.{sap-missing, sum-differs, end-differs, content-whole, answer-content}
 use Rattle.telegram.proofs.deserialize.read_content.Statement.{statement}
 use Rattle.telegram.proofs.deserialize.read_content.Tie as tie
 
-sap-missing : tie.Need-returns
-unfolding contentOf
-sap-missing c = rw (← c .before .saps-at .ensures .0, lt-ltb _ _ (c .if1 .taken))
+no-sap : tie.Need-returns
+no-sap c = sym (answer-content (sap-missing (omega (arith, c .before .saps-at .ensures .0))))
 
-checksum-differs : tie.Need-returns-2
-unfolding contentOf
-checksum-differs c =
+other-sum : tie.Need-returns-2
+other-sum c =
     let k = c .before in
     let e = k .before .before .before in
-    rw (
-      ← e .before .saps-at .ensures .0,
-      le-ltb _ _ (e .if1 .left),
-      ← k .checksum .ensures,
-      ne-eqb _ _ (c .if2 .taken),
-    )
+    sym (answer-content (sum-differs (omega (arith, e .before .saps-at .ensures .0, e .if1 .left)) (rw (k .checksum .ensures) at (c .if2 .taken))))
 
-end-differs : tie.Need-returns-3
-unfolding contentOf
-end-differs c =
+other-end : tie.Need-returns-3
+other-end c =
     let s = c .before .before in
     let k = s .before in
     let e = k .before .before .before in
-    rw (
-      ← e .before .saps-at .ensures .0,
-      le-ltb _ _ (e .if1 .left),
-      ← k .checksum .ensures,
-      eq-eqb _ _ (s .if2 .left),
-      ne-eqb _ _ (c .if3 .taken),
-    )
+    sym
+    (answer-content
+    (end-differs
+    (omega (arith, e .before .saps-at .ensures .0, e .if1 .left))
+    (rw (k .checksum .ensures) at (s .if2 .left))
+    (c .if3 .taken)))
 
-whole-telegram : tie.Need-returns-4
-unfolding contentOf
-whole-telegram c =
+telegram : tie.Need-returns-4
+telegram c =
     let f = c .before in
     let s = f .before .before in
     let k = s .before in
     let e = k .before .before .before in
-    rw (
-      ← e .before .saps-at .ensures .0,
-      le-ltb _ _ (e .if1 .left),
-      ← k .checksum .ensures,
-      eq-eqb _ _ (s .if2 .left),
-      eq-eqb _ _ (f .if3 .left),
-      c .header-at .ensures,
-    )
+    rw (c .header-at .ensures, e .before .saps-at .ensures .0)
+    (sym
+    (answer-content
+    (content-whole
+    (omega (arith, e .before .saps-at .ensures .0, e .if1 .left))
+    (rw (k .checksum .ensures) at (s .if2 .left))
+    (f .if3 .left))))
 
 pub read-content-spec : {M : Type 1} → statement M
 read-content-spec =
@@ -58,7 +48,7 @@ read-content-spec =
     (tie.spec
     (λ c κs. search needs)
     (λ c. search needs)
-    sap-missing
+    no-sap
     (λ c. search needs)
     (λ c. search needs)
     (λ c. search needs)
@@ -67,12 +57,12 @@ read-content-spec =
     (λ c. search needs)
     (λ c. search needs)
     (λ c κs. search needs)
-    checksum-differs
+    other-sum
     (λ c. search needs)
     (λ c. search needs)
-    end-differs
+    other-end
     (λ c κs. search needs)
     (λ c. search needs)
     (λ c. search needs)
     (λ c. search needs)
-    whole-telegram)
+    telegram)

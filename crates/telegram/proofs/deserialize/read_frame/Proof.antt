@@ -1,27 +1,24 @@
--- `read_frame` meets its contract: its tests are those of `frameOf` and `codeOf`, in the same order.
+-- `read_frame` meets its contract: each return is a case of steps 3 and 4.
 -- Assumes nothing.
+use mathlib.Core.Path.{sym, _∙_}
 use borrow.Author.Needs.{needs}
-use borrow.Author.Tests.{lt-ltb, le-ltb}
-use Rattle.telegram.specs.Reading.{frameOf}
+use Rattle.telegram.proofs.Answers.{under-total, code-unknown, answer-frame, code-read}
 use Rattle.telegram.proofs.deserialize.read_frame.Statement.{statement}
 use Rattle.telegram.proofs.deserialize.read_frame.Tie as tie
 
-under-the-total : tie.Need-returns
-unfolding frameOf
-under-the-total c = rw (lt-ltb _ _ (c .if1 .taken))
+under : tie.Need-returns
+under c = sym (answer-frame (under-total (c .if1 .taken)))
 
-code-unknown : tie.Need-returns-2
-unfolding frameOf
-code-unknown c =
+no-code : tie.Need-returns-2
+no-code c =
     let b = c .before .before in
-    rw (le-ltb _ _ (b .before .before .if1 .left), ← b .from-byte .ensures, c .enum-told .given .1)
+    sym (answer-frame (code-unknown (b .before .before .if1 .left) (sym (b .from-byte .ensures) ∙ c .enum-told .given .1)))
 
-code-known : tie.Need-returns-3
-unfolding frameOf
-code-known c =
+code : tie.Need-returns-3
+code c =
     let f = c .before .before in
     let b = f .before .before in
-    rw (le-ltb _ _ (b .before .before .if1 .left), ← b .from-byte .ensures, f .fc .given .1) (c .read-content .ensures)
+    c .read-content .ensures ∙ sym (code-read _ _ _ _ (b .before .before .if1 .left) (sym (b .from-byte .ensures) ∙ f .fc .given .1))
 
 pub read-frame-spec : {M : Type 1} → statement M
 read-frame-spec =
@@ -29,12 +26,12 @@ read-frame-spec =
     (tie.spec
     (λ c. search needs)
     (λ c. search needs)
-    under-the-total
+    under
     (λ c. search needs)
     (λ c. search needs)
     (λ c κs. search needs)
     (λ c. search needs)
     (λ c. search needs)
-    code-unknown
+    no-code
     (λ c κs. search needs)
-    code-known)
+    code)

@@ -8,19 +8,20 @@ use native.Mathlib.Omega.{arith}
 use lib.Dec.{lit<}
 use lib.ListN.{length, length-set}
 use borrow.Author.Needs.{needs}
-use Rattle.telegram_tx.proofs.PlacingLaws.{Copied, copy-starts, copy-goes-on, copy-ends, Adding, adding-starts, adding-goes-on, adding-ends}
+use Rattle.buffers.proofs.FrontLaws.{Copied, copy-starts, copy-goes-on, copy-ends}
+use Rattle.codes.proofs.ChecksumLaws.{Summed, sum-starts, sum-goes-on, sum-ends}
 use Rattle.telegram_tx.proofs.put.copy_sum.Statement.{statement}
 use Rattle.telegram_tx.proofs.put.copy_sum.Tie as tie
 
 abbrev Inv-loop : tie.InvT-loop
 Inv-loop src sum dst₀ total₀ i₀ dst total i =
-    (i ≤ length src) × (length dst ≡ length dst₀) × (total < 256) × Copied src dst₀ i dst × Adding src sum i total
+    (i ≤ length src) × (length dst ≡ length dst₀) × (total < 256) × Copied src dst₀ i dst × Summed src sum i total
 
 abbrev μ-loop : tie.MeasureT-loop
 μ-loop src sum dst₀ total₀ i₀ dst total i = length src - i
 
 loop-holds : tie.Need-loop-holds Inv-loop μ-loop
-loop-holds c = (omega arith, refl, search needs, copy-starts _ _, adding-starts _ _)
+loop-holds c = (omega arith, refl, search needs, copy-starts _ _, sum-starts _ _)
 
 loop-again : tie.Need-loop-again Inv-loop μ-loop
 loop-again c =
@@ -31,7 +32,7 @@ loop-again c =
       rw length-set (l .inv .1),
       rw (c .wrapping-add-u8 .ensures) (mod-lt _ (lit< tt)),
       copy-goes-on _ _ _ _ more room (l .inv .3),
-      rw (c .wrapping-add-u8 .ensures) (adding-goes-on _ _ _ _ more (l .inv .4)),
+      rw (c .wrapping-add-u8 .ensures) (sum-goes-on _ _ _ _ more (l .inv .4)),
     )
 
 same-length : tie.Need-same-length Inv-loop μ-loop
@@ -40,7 +41,7 @@ same-length c = c .before .loop .inv .1
 returns : tie.Need-returns Inv-loop μ-loop
 returns c =
     let l = c .before .loop in
-    (adding-ends _ _ _ _ (c .loop-test .left) (l .inv .2) (l .inv .4), copy-ends _ _ _ _ (l .inv .0) (c .loop-test .left) (l .inv .3))
+    (sum-ends _ _ _ _ (c .loop-test .left) (l .inv .2) (l .inv .4), copy-ends _ _ _ _ (l .inv .0) (c .loop-test .left) (l .inv .3))
 
 pub copy-sum-spec : {M : Type 1} → statement M
 copy-sum-spec =

@@ -7,7 +7,7 @@ use Rattle.telegram_tx.proofs.put.put_byte.Statement.{statement}
 use Rattle.telegram_tx.proofs.put.put_byte.Tie as tie
 
 returns : tie.Need-returns
-returns c = byte-covered _ _ _ _ (c .before .before .pre) refl (c .wrapping-add-u8 .ensures)
+returns c = byte-covered _ _ _ _ refl (c .wrapping-add-u8 .ensures)
 
 pub put-byte-spec : {M : Type 1} → statement M
 put-byte-spec =

@@ -1,31 +1,16 @@
 -- `put_fixed` meets its contract: three bytes, one behind the other.
 -- Assumes nothing.
-use mathlib.Core.List.{[], _∷_}
-use native.Mathlib.Omega.{arith}
 use borrow.Author.Needs.{needs}
-use Rattle.telegram_tx.proofs.PlacingLaws.{covers-three}
+use Rattle.telegram_tx.proofs.PlacingLaws.{covers-then}
 use Rattle.telegram_tx.proofs.serialize.put_fixed.Statement.{statement}
 use Rattle.telegram_tx.proofs.serialize.put_fixed.Tie as tie
 
 returns : tie.Need-returns
 returns c =
-    rw (← c .before .before .before .to-byte .ensures)
-    (covers-three
-    _
-    _
-    (_ ∷ [])
-    (_ ∷ [])
-    (_ ∷ [])
-    _
-    _
-    _
-    _
-    _
-    _
-    (omega (arith, c .before .before .before .before .before .before .before .before .before .before .before .before .before .before .pre .2))
-    (c .before .before .before .before .before .before .before .before .before .before .before .put-address .ensures)
-    (c .before .before .before .before .before .before .before .put-address2 .ensures)
-    (c .before .before .put-byte .ensures))
+    let s = c .before .before .before .before .before .before .before in
+    covers-then
+    (covers-then (s .before .before .before .before .put-address .ensures) (s .put-address2 .ensures))
+    (rw (c .before .before .before .to-byte .ensures) at (c .before .before .put-byte .ensures))
 
 pub put-fixed-spec : {M : Type 1} → statement M
 put-fixed-spec =

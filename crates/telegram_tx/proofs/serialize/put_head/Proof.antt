@@ -1,11 +1,10 @@
 -- `put_head` meets its contract: the SAPs stand behind da, sa and fc.
 -- Assumes nothing.
-use mathlib.Core.List.{[], _∷_}
 use native.Mathlib.Omega.{arith}
 use borrow.Author.Needs.{needs}
 use Rattle.telegram.specs.Picture.{headBytes}
 use Rattle.telegram_tx.proofs.LengthLaws.{head-length}
-use Rattle.telegram_tx.proofs.PlacingLaws.{covers-three}
+use Rattle.telegram_tx.proofs.PlacingLaws.{covers-then}
 use Rattle.telegram_tx.proofs.serialize.put_head.Statement.{statement}
 use Rattle.telegram_tx.proofs.serialize.put_head.Tie as tie
 
@@ -21,23 +20,8 @@ put-ssap c κs = let s = c .before .before .before .before .before .before .befo
 returns : tie.Need-returns
 unfolding headBytes
 returns c =
-    let s = c .before .before .before .before .before .before .before .before .before .before .before .before .before in
-    covers-three
-    _
-    _
-    (_ ∷ _ ∷ _ ∷ [])
-    _
-    _
-    _
-    _
-    _
-    _
-    _
-    _
-    (omega (arith, s .pre .2, head-length (s .args .header)))
-    (c .before .before .before .before .before .before .before .before .before .before .put-fixed .ensures)
-    (c .before .before .before .before .before .before .put-sap .ensures)
-    (c .before .before .put-sap2 .ensures)
+    let d = c .before .before .before .before .before .before in
+    covers-then (covers-then (d .before .before .before .before .put-fixed .ensures) (d .put-sap .ensures)) (c .before .before .put-sap2 .ensures)
 
 pub put-head-spec : {M : Type 1} → statement M
 put-head-spec = tie.close (tie.spec put-fixed-requires put-dsap put-ssap (λ c. search needs) returns)

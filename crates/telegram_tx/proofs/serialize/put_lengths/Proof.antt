@@ -9,7 +9,7 @@ use Rattle.telegram_tx.proofs.serialize.put_lengths.Statement.{statemen
 use Rattle.telegram_tx.proofs.serialize.put_lengths.Tie as tie
 
 returns : tie.Need-returns
-returns c = stores-placed _ 0 (_ ∷ _ ∷ _ ∷ _ ∷ []) (omega arith)
+returns c = stores-placed _ 0 (_ ∷ _ ∷ _ ∷ _ ∷ [])
 
 pub put-lengths-spec : {M : Type 1} → statement M
 put-lengths-spec =

@@ -1,14 +1,14 @@
 -- `serialize` meets its contract: start, head, PDU and end, one behind the other, are the telegram; and where its start is not put, nothing is.
 -- Assumes nothing.
-use mathlib.Core.Path.{_≡_, refl}
-use Prim.Native.Nat.{_+_, _≤_, _<_}
+use mathlib.Core.Path.{refl}
+use Prim.Native.Nat.{_≤_}
 use native.Mathlib.Omega.{arith}
 use lib.ListN.{length}
 use borrow.Author.Needs.{needs}
-use Rattle.telegram.specs.Picture.{lengthByte, startBytes, telegramBytes}
-use Rattle.telegram_tx.proofs.LengthLaws.{head-length, length-byte-split, start-some, telegram-length}
+use Rattle.telegram.specs.Picture.{telegramBytes}
+use Rattle.telegram_tx.proofs.LengthLaws.{length-byte-split, start-some, telegram-length}
 use Rattle.telegram_tx.proofs.PlacingLaws.{telegram-placed, told-cramped, told-fitting}
-use Rattle.telegram_tx.specs.Placing.{Placed, cramped, fitting}
+use Rattle.telegram_tx.specs.Placing.{cramped, fitting}
 use Rattle.telegram_tx.proofs.serialize.serialize.Statement.{statement}
 use Rattle.telegram_tx.proofs.serialize.serialize.Tie as tie
 
@@ -68,20 +68,7 @@ returns c =
     let p = e .before .before .before in
     let s = p .before .before .before .before in
     fitting (room e)
-    (telegram-placed
-    _
-    (s .args .header)
-    (s .args .pdu .now)
-    _
-    _
-    _
-    _
-    _
-    _
-    _
-    _
-    (room e)
-    (p .put-start .kept .0)
+    (telegram-placed (s .args .header) (s .args .pdu .now)
     (rw (s .pre .length-is) at (told-fitting (p .put-start .ensures) (e .if1 .left) .1))
     (b .put-head .ensures)
     (d .put-pdu .ensures)

@@ -1,10 +1,7 @@
 -- `send_addressed` meets its contract: the test for 9 is that of `writeOf`, and `serialize` tells whether there is room.
 -- Assumes nothing.
-use Prim.Native.Nat.{_≤_}
 use native.Mathlib.Omega.{arith}
-use lib.ListN.{length}
 use borrow.Author.Needs.{needs}
-use Rattle.telegram.specs.Picture.{lengthByte, telegramBytes}
 use Rattle.telegram_tx.proofs.LengthLaws.{telegram-length}
 use Rattle.telegram_tx.proofs.PlacingLaws.{front-placed, told-cramped, told-fitting}
 use Rattle.telegram_tx.proofs.WritingLaws.{refused-9, refused-10, sent, refused-stays, sent-stands}
@@ -45,7 +42,7 @@ returns c =
     let e = w .before .before in
     let s = e .before .before .before .before in
     let told = told-fitting (w .serialize .ensures) (f .if2 .left) in
-    let written = front-placed _ _ _ _ (told .1) in
+    let written = front-placed (told .0) (told .1) in
     rw (c .new .ensures, written .0, c .before .reply-of .ensures)
     (sent-stands _ _ _ _ _ (sent _ _ _ (s .pre .0) (s .pre .1) (rw (e .before .length-byte .ensures) at (e .if1 .left)) (told .0)) (written .1))
 

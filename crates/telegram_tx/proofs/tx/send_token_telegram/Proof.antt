@@ -12,7 +12,9 @@ no-room : tie.Need-returns
 no-room c = refused-stays _ _ _ _ (refused-10-of _ _ _ (c .if1 .taken))
 
 sent : tie.Need-returns-2
-sent c = stored-sent (tokenBytes _ _) _ _ (c .before .before .before .args .buf .now) (c .before .if1 .left) (c .new .ensures)
+sent c =
+    let a = c .before .before .before .args in
+    stored-sent (tokenBytes (a .da .0) (a .sa .0)) _ _ (a .buf .now) (c .before .if1 .left) (c .new .ensures)
 
 pub send-token-telegram-spec : {M : Type 1} → statement M
 send-token-telegram-spec =

@@ -39,7 +39,7 @@ pub +put-decimal-spec : {M : Type 1} → statement M
     (λ c. search needs)
     (λ c.
     let called = c .before .before in
-    rw (decimal-small _ (called .before .before .before .if1 .taken), ← called .before .digit .ensures) (called .put-byte .ensures))
+    rw (decimal-small _ (called .before .before .before .if1 .taken)) (rw (called .before .digit .ensures) at (called .put-byte .ensures)))
     (λ c κs. (omega (arith, c .before .before .before .pre .0), tt))
     (λ c κs. search needs)
     (λ c κs. search needs)
@@ -47,5 +47,5 @@ pub +put-decimal-spec : {M : Type 1} → statement M
     (λ c.
     let called = c .before .before in
     let first = called .before .before .before .before .before in
-    rw (decimal-large _ (first .before .before .if1 .left), ← called .before .digit2 .ensures)
-    (then (first .put-decimal .ensures) (called .put-byte2 .ensures))))
+    rw (decimal-large _ (first .before .before .if1 .left))
+    (then (first .put-decimal .ensures) (rw (called .before .digit2 .ensures) at (called .put-byte2 .ensures)))))

@@ -1,16 +1,15 @@
 -- `digits_at` meets its contract: what the digits at `at` say is, at each turn, what those at `next` say read on from `value`.
 -- Assumes nothing.
-use mathlib.Core.Path.{_≡_, refl, sym, ap, _∙_}
-use mathlib.Core.Bool.{true, false}
-use mathlib.Core.List.{List, []}
-use Prim.Native.Nat.{ℕ, _+_, _-_, _≤_, min}
-use native.Mathlib.Omega.{arith}
+use mathlib.Core.Path.{_≡_, refl, sym, _∙_}
+use mathlib.Core.Bool.{true}
+use Prim.Native.Nat.{_-_}
 use borrow.Author.Needs.{needs}
 use borrow.Author.Tests.{not-true, not-false}
 use denote.Ref.{now}
-use lib.ListN.{length, getD, drop}
-use Rattle.text.specs.Decimal.{isDigit, digitsIn, valueFrom, valueOf, DigitsRead}
-use Rattle.text.proofs.ReadingLaws.{DigitsLeft, left-end, left-turn, digit-range, digits-stop, digits-beyond}
+use lib.ListN.{length, getD}
+use Rattle.text.specs.Decimal.{isDigit}
+use Rattle.text.proofs.DecimalLaws.{digit-range}
+use Rattle.text.proofs.ReadingLaws.{DigitsLeft, left-end, left-turn, digits-stop, digits-beyond}
 use Rattle.text.proofs.decimal.digits_at.Statement.{statement}
 use Rattle.text.proofs.decimal.digits_at.Tie as tie
 

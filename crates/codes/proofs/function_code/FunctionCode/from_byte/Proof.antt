@@ -1,58 +1,48 @@
--- `FunctionCode::from_byte` meets its contract: its tests and calls are those of `functionCodeOf`, in the same order.
+-- `FunctionCode::from_byte` meets its contract: its calls find what `functionCodeOf` is made of, on either side of bit 6.
 -- Assumes nothing.
+use mathlib.Core.Path.{refl, sym, _∙_}
 use borrow.Author.Needs.{needs}
-use borrow.Author.Tests.{eq-eqb, ne-eqb}
-use Rattle.codes.specs.FunctionCodes.{functionCodeOf}
+use Rattle.codes.specs.declared.request_type.RequestTypeFound.the-variants as requestFound
+use Rattle.codes.specs.declared.response.ResponseStateFound.the-variants as stateFound
+use Rattle.codes.specs.declared.response.ResponseStatusFound.the-variants as statusFound
+use Rattle.codes.proofs.FunctionCodeLaws.{request-read, response-read}
 use Rattle.codes.proofs.function_code.FunctionCode.from_byte.Statement.{statement}
 use Rattle.codes.proofs.function_code.FunctionCode.from_byte.Tie as tie
 
 no-request : tie.Need-returns
-unfolding functionCodeOf
 no-request c =
     let u = c .before .before in
-    rw (eq-eqb _ _ (u .before .if1 .taken), ← u .from-u8 .ensures, c .enum-told .given .1)
+    request-read _ _ requestFound.Nothing (u .before .if1 .taken) refl (sym (c .enum-told .given .1) ∙ u .from-u8 .ensures)
 
 request : tie.Need-returns-2
-unfolding functionCodeOf
 request c =
     let r = c .before .before in
     let u = r .before .before in
-    rw (eq-eqb _ _ (u .before .if1 .taken), ← u .from-u8 .ensures, r .req .given .1, c .from-fcv-fcb .ensures)
+    request-read _ _ (requestFound.Is _) (u .before .if1 .taken) (c .from-fcv-fcb .ensures) (sym (r .req .given .1) ∙ u .from-u8 .ensures)
 
 no-state : tie.Need-returns-3
-unfolding functionCodeOf
 no-state c =
     let u = c .before .before in
-    rw (ne-eqb _ _ (u .before .if1 .left), ← u .from-u82 .ensures, c .enum-told2 .given .1)
+    response-read _ stateFound.Nothing _ (u .before .if1 .left) (sym (c .enum-told2 .given .1) ∙ u .from-u82 .ensures) refl
 
 no-status : tie.Need-returns-4
-unfolding functionCodeOf
 no-status c =
     let t = c .before .before in
     let s = t .before .before in
     let u = s .before .before in
-    rw (
-      ne-eqb _ _ (u .before .if1 .left),
-      ← u .from-u82 .ensures,
-      s .state .given .1,
-      ← t .from-u83 .ensures,
-      c .enum-told3 .given .1,
-    )
+    response-read _ (stateFound.Is _) statusFound.Nothing (u .before .if1 .left)
+    (sym (s .state .given .1) ∙ u .from-u82 .ensures)
+    (sym (c .enum-told3 .given .1) ∙ t .from-u83 .ensures)
 
 response : tie.Need-returns-5
-unfolding functionCodeOf
 response c =
     let p = c .before in
     let t = p .before .before in
     let s = t .before .before in
     let u = s .before .before in
-    rw (
-      ne-eqb _ _ (u .before .if1 .left),
-      ← u .from-u82 .ensures,
-      s .state .given .1,
-      ← t .from-u83 .ensures,
-      p .status .given .1,
-    )
+    response-read _ (stateFound.Is _) (statusFound.Is _) (u .before .if1 .left)
+    (sym (s .state .given .1) ∙ u .from-u82 .ensures)
+    (sym (p .status .given .1) ∙ t .from-u83 .ensures)
 
 pub from-byte-spec : {M : Type 1} → statement M
 from-byte-spec =

@@ -1,61 +1,16 @@
--- `RequestType::from_u8` meets its contract: in an arm the number is the one named there; after all of them it is none of these.
+-- `RequestType::from_u8` meets its contract: in an arm the number is the one of the variant named there; after all of them it is none of these.
 -- Assumes nothing.
+use mathlib.Core.Path.{sym}
 use borrow.Author.Tests.{ne-eqb}
 use Rattle.codes.specs.RequestTypes.{requestTypeOf}
+use Rattle.codes.specs.declared.request_type.RequestType.the-variants.{ClockValue, TimeEvent, SdaLow, SdnLow, SdaHigh, SdnHigh, MulticastSrd, FdlStatus, SrdLow, SrdHigh, Ident, LsapStatus}
+use Rattle.codes.proofs.NumberLaws.{request-type-again}
 use Rattle.codes.proofs.request_type.RequestType.from_u8.Statement.{statement}
 use Rattle.codes.proofs.request_type.RequestType.from_u8.Tie as tie
 
-returns : tie.Need-returns
+none : tie.Need-returns-13
 unfolding requestTypeOf
-returns c = rw (c .match .keys1)
-
-returns-2 : tie.Need-returns-2
-unfolding requestTypeOf
-returns-2 c = rw (c .match .keys2)
-
-returns-3 : tie.Need-returns-3
-unfolding requestTypeOf
-returns-3 c = rw (c .match .keys3)
-
-returns-4 : tie.Need-returns-4
-unfolding requestTypeOf
-returns-4 c = rw (c .match .keys4)
-
-returns-5 : tie.Need-returns-5
-unfolding requestTypeOf
-returns-5 c = rw (c .match .keys5)
-
-returns-6 : tie.Need-returns-6
-unfolding requestTypeOf
-returns-6 c = rw (c .match .keys6)
-
-returns-7 : tie.Need-returns-7
-unfolding requestTypeOf
-returns-7 c = rw (c .match .keys7)
-
-returns-8 : tie.Need-returns-8
-unfolding requestTypeOf
-returns-8 c = rw (c .match .keys8)
-
-returns-9 : tie.Need-returns-9
-unfolding requestTypeOf
-returns-9 c = rw (c .match .keys9)
-
-returns-10 : tie.Need-returns-10
-unfolding requestTypeOf
-returns-10 c = rw (c .match .keys10)
-
-returns-11 : tie.Need-returns-11
-unfolding requestTypeOf
-returns-11 c = rw (c .match .keys11)
-
-returns-12 : tie.Need-returns-12
-unfolding requestTypeOf
-returns-12 c = rw (c .match .keys12)
-
-returns-13 : tie.Need-returns-13
-unfolding requestTypeOf
-returns-13 c =
+none c =
     simp (
       ne-eqb _ _ (c .match .rest .0 .0 .0 .0 .0 .0 .0 .0 .0 .0 .0 .1),
       ne-eqb _ _ (c .match .rest .0 .0 .0 .0 .0 .0 .0 .0 .0 .0 .1),
@@ -75,16 +30,16 @@ pub from-u8-spec : {M : Type 1} → statement M
 from-u8-spec =
     tie.close
     (tie.spec
-    returns
-    returns-2
-    returns-3
-    returns-4
-    returns-5
-    returns-6
-    returns-7
-    returns-8
-    returns-9
-    returns-10
-    returns-11
-    returns-12
-    returns-13)
+    (λ c. rw (c .match .keys1) (sym (request-type-again ClockValue)))
+    (λ c. rw (c .match .keys2) (sym (request-type-again TimeEvent)))
+    (λ c. rw (c .match .keys3) (sym (request-type-again SdaLow)))
+    (λ c. rw (c .match .keys4) (sym (request-type-again SdnLow)))
+    (λ c. rw (c .match .keys5) (sym (request-type-again SdaHigh)))
+    (λ c. rw (c .match .keys6) (sym (request-type-again SdnHigh)))
+    (λ c. rw (c .match .keys7) (sym (request-type-again MulticastSrd)))
+    (λ c. rw (c .match .keys8) (sym (request-type-again FdlStatus)))
+    (λ c. rw (c .match .keys9) (sym (request-type-again SrdLow)))
+    (λ c. rw (c .match .keys10) (sym (request-type-again SrdHigh)))
+    (λ c. rw (c .match .keys11) (sym (request-type-again Ident)))
+    (λ c. rw (c .match .keys12) (sym (request-type-again LsapStatus)))
+    none)

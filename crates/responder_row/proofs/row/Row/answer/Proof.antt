@@ -1,21 +1,26 @@
 -- `Row::answer` meets its contract: each arm is a clause of `answersIn`.
 -- Assumes nothing.
 use borrow.Author.Needs.{needs}
-use mathlib.Core.Path.{refl}
-use borrow.Author.Tests.{lt-ltb, le-ltb}
-use Rattle.responder_row.proofs.RowLaws.{answer-refused, answer-accepted}
+use mathlib.Core.Path.{refl, sym, _∙_, ap}
+use Rattle.codes.specs.Refusals.{gives}
+use Rattle.responder_row.proofs.RowLaws.{answer-refused, answer-accepted, answer-long, answer-fits}
 use Rattle.responder_row.proofs.row.Row.answer.Statement.{statement}
 use Rattle.responder_row.proofs.row.Row.answer.Tie as tie
 
 too-long : tie.Need-returns
 too-long c =
-    answer-refused _ _ _ (c .before .before .before .state .given .1) _ _ (c .refuse3 .ensures)
-    (rw (lt-ltb _ _ (c .before .if1 .taken)))
+    let t = c .before .before .before in
+    let s = t .before .before .before in
+    answer-refused _ _ _ (t .state .given .1) _ _ (c .refuse3 .ensures)
+    (answer-long (t .state .given .0 .0) (s .args .self) (s .args .reply .now) (c .before .if1 .taken))
 
 accepted : tie.Need-returns-4
 accepted c =
-    answer-accepted _ _ _ (c .before .before .before .state .given .1) _
-    (rw (le-ltb _ _ (c .before .if1 .left), c .hold .ensures))
+    let t = c .before .before .before in
+    let s = t .before .before .before in
+    answer-accepted _ _ _ (t .state .given .1) _
+    (ap gives (c .hold .ensures)
+    ∙ sym (answer-fits (t .state .given .0 .0) (s .args .self) (s .args .reply .now) (c .before .if1 .left)))
 
 pub answer-spec : {M : Type 1} → statement M
 answer-spec =

@@ -1,14 +1,20 @@
 -- `hear_other` meets its contract: its test is that of `otherOn`.
 -- Assumes nothing.
+use mathlib.Core.Path.{sym, _∙_}
 use borrow.Author.Needs.{needs}
+use Rattle.responder_row.proofs.RowLaws.{other-ignored, other-handed-up}
 use Rattle.responder_row.proofs.row.Row.hear_other.Statement.{statement}
 use Rattle.responder_row.proofs.row.Row.hear_other.Tie as tie
 
 wrong : tie.Need-returns
-wrong c = rw (← c .before .before .wrong-length .ensures, c .before .if1 .taken) (c .ignore .ensures)
+wrong c =
+    c .ignore .ensures
+    ∙ sym (other-ignored _ _ _ (sym (c .before .before .wrong-length .ensures) ∙ c .before .if1 .taken))
 
 handed-up : tie.Need-returns-2
-handed-up c = rw (← c .before .before .wrong-length .ensures, c .before .if1 .left, c .in-state .ensures)
+handed-up c =
+    rw (c .in-state .ensures)
+    (sym (other-handed-up _ _ _ (sym (c .before .before .wrong-length .ensures) ∙ c .before .if1 .left)))
 
 pub hear-other-spec : {M : Type 1} → statement M
 hear-other-spec =

@@ -2,19 +2,23 @@
 -- Assumes nothing.
 use borrow.Author.Needs.{needs}
 use borrow.Author.Tests.{eq-eqb, ne-eqb}
+use Rattle.codes.specs.RequestTypes.{requestNumber}
+use Rattle.codes.specs.declared.request_type.RequestType.the-variants.{FdlStatus}
 use Rattle.telegram.proofs.kinds.DataTelegram.is_fdl_status_request.Statement.{statement}
 use Rattle.telegram.proofs.kinds.DataTelegram.is_fdl_status_request.Tie as tie
 
 other-request : tie.Need-returns-2
 other-request c =
     let n = c .before .before in
-    rw (n .before .before .fc .given .1, ← n .number .ensures, ← c .before .number2 .ensures, ne-eqb _ _ (c .if1 .taken))
+    let other = rw (n .number .ensures, c .before .number2 .ensures) at (c .if1 .taken) in
+    rw (n .before .before .fc .given .1, ne-eqb _ (requestNumber FdlStatus) other)
 
 status-request : tie.Need-returns-3
 status-request c =
     let e = c .before in
     let n = e .before .before in
-    rw (n .before .before .fc .given .1, ← n .number .ensures, ← e .before .number2 .ensures, eq-eqb _ _ (e .if1 .left))
+    let same = rw (n .number .ensures, e .before .number2 .ensures) at (e .if1 .left) in
+    rw (n .before .before .fc .given .1, eq-eqb _ (requestNumber FdlStatus) same)
 
 pub is-fdl-status-request-spec : {M : Type 1} → statement M
 is-fdl-status-request-spec =

@@ -1,30 +1,25 @@
--- `Telegram::deserialize` meets its contract: its test and its arms are those of `readOf`, in the same order.
+-- `Telegram::deserialize` meets its contract: the first byte decides, and each arm is a case of it.
 -- Assumes nothing.
 use borrow.Author.Needs.{needs}
-use borrow.Author.Tests.{eq-eqb, ne-eqb}
-use Rattle.telegram.specs.Reading.{readOf}
-use Rattle.telegram.proofs.Answers.{data-read, unknown-read}
+use Rattle.telegram.proofs.Answers.{nothing-read, confirmation-read, token-start, data-start, unknown-read}
 use Rattle.telegram.proofs.kinds.Telegram.deserialize.Statement.{statement}
 use Rattle.telegram.proofs.kinds.Telegram.deserialize.Tie as tie
 
 nothing : tie.Need-returns
-unfolding readOf
-nothing c = rw (eq-eqb _ _ (c .if1 .taken))
+nothing c = rw (nothing-read _ (c .if1 .taken))
 
 confirmation : tie.Need-returns-2
-unfolding readOf
-confirmation c = rw (ne-eqb _ _ (c .before .before .if1 .left), c .match .keys1)
+confirmation c = rw (confirmation-read _ (c .before .before .if1 .left) (c .match .keys1))
 
 token : tie.Need-returns-3
-unfolding readOf
 token c =
     let m = c .before in
-    rw (ne-eqb _ _ (m .before .before .if1 .left), m .match .keys2) (c .read-token .ensures)
+    rw (token-start _ (m .before .before .if1 .left) (m .match .keys2)) (c .read-token .ensures)
 
 data-telegram : tie.Need-returns-4
 data-telegram c =
     let m = c .before in
-    rw (data-read _ (m .before .before .if1 .left) (m .match .keys3)) (c .read-data .ensures)
+    rw (data-start _ (m .before .before .if1 .left) (m .match .keys3)) (c .read-data .ensures)
 
 unknown : tie.Need-returns-5
 unknown c =

@@ -1,26 +1,22 @@
 -- `new` meets its contract: its test is the definition's, and the list is what `fresh_ring` ensures.
 -- Assumes nothing.
+use mathlib.Core.Path.{sym, _∙_}
+use Prim.Native.Nat.{_≤_, _<_}
+use native.Mathlib.Omega.{arith}
 use borrow.Author.Needs.{needs}
-use borrow.Author.Tests.{lt-ltb, le-ltb}
-use Rattle.token_ring.specs.Rules.{made}
+use Rattle.token_ring.proofs.RuleLaws.{answers-11, answers-done, made-fresh, made-refused}
 use Rattle.token_ring.proofs.ring.TokenRing.new.Statement.{statement}
 use Rattle.token_ring.proofs.ring.TokenRing.new.Tie as tie
 
 returns : tie.Need-returns
-unfolding made
 returns c =
-    record {
-      answer = rw (lt-ltb _ _ (c .before .if1 .taken));
-      ring = rw (lt-ltb _ _ (c .before .if1 .taken)) (c .fresh-ring .ensures);
-    }
+    let above : 125 < c .before .before .args .own .0 = omega arith in
+    record { answer = sym (answers-11 _ above); ring = c .fresh-ring .ensures ∙ sym (made-refused _ above) }
 
 returns-2 : tie.Need-returns-2
-unfolding made
 returns-2 c =
-    record {
-      answer = rw (le-ltb _ _ (c .before .if1 .left));
-      ring = rw (le-ltb _ _ (c .before .if1 .left)) (c .fresh-ring2 .ensures);
-    }
+    let station : c .before .before .args .own .0 ≤ 125 = omega arith in
+    record { answer = sym (answers-done _ station); ring = c .fresh-ring2 .ensures ∙ sym (made-fresh _ station) }
 
 pub new-spec : {M : Type 1} → statement M
 new-spec = tie.close (tie.spec (λ c κs. search needs) returns (λ c κs. search needs) returns-2)

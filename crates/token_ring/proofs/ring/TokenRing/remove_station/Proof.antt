@@ -1,23 +1,27 @@
 -- `remove_station` meets its contract: its test is the definition's, and the list is what the calls ensure.
 -- Assumes nothing.
-use mathlib.Core.Path.{_∙_}
+use mathlib.Core.Path.{sym, _∙_}
+use Prim.Native.Nat.{_≤_, _<_}
+use native.Mathlib.Omega.{arith}
 use borrow.Author.Needs.{needs}
-use borrow.Author.Tests.{lt-ltb, le-ltb}
-use Rattle.token_ring.specs.Rules.{removed, withFlags}
+use Rattle.token_ring.specs.Rules.{withFlags}
+use Rattle.token_ring.proofs.RuleLaws.{answers-11, answers-done, remove-done, remove-refused}
 use Rattle.token_ring.proofs.ring.TokenRing.remove_station.Statement.{statement}
 use Rattle.token_ring.proofs.ring.TokenRing.remove_station.Tie as tie
 
 returns : tie.Need-returns
-unfolding removed
-returns c = record { answer = rw (lt-ltb _ _ (c .if1 .taken)); ring = rw (lt-ltb _ _ (c .if1 .taken)) }
+returns c =
+    let above : 125 < c .before .args .address .0 = omega arith in
+    record { answer = sym (answers-11 _ above); ring = sym (remove-refused _ _ above) }
 
 returns-2 : tie.Need-returns-2
-unfolding removed withFlags
+unfolding withFlags
 returns-2 c =
-    let p = c .before .before .before in
+    let left = c .before .before .before in
+    let station : left .before .args .address .0 ≤ 125 = omega (arith, left .if1 .left) in
     record {
-      answer = rw (le-ltb _ _ (p .if1 .left));
-      ring = rw (le-ltb _ _ (p .if1 .left)) (c .update-next-previous .ensures ∙ rw (c .before .mark .ensures));
+      answer = sym (answers-done _ station);
+      ring = c .update-next-previous .ensures ∙ rw (c .before .mark .ensures, remove-done _ (left .before .args .t1) station);
     }
 
 pub remove-station-spec : {M : Type 1} → statement M

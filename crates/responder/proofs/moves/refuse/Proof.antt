@@ -1,0 +1,8 @@
+-- `refuse` meets its contract. The search would find it unasked; the file makes a wrong `refuse` fail here, at the fact.
+-- Assumes nothing.
+use borrow.Author.Needs.{needs}
+use Rattle.responder.proofs.moves.refuse.Statement.{statement}
+use Rattle.responder.proofs.moves.refuse.Tie as tie
+
+pub refuse-spec : {M : Type 1} → statement M
+refuse-spec = tie.close (tie.spec (λ c. search needs))

@@ -1,9 +1,9 @@
 /* Koyandefa: telegrams, the station list, diagnostics and the order link of PROFIBUS, as proved functions.
  *
- * Link with libexports.a (rt staticlib exports), and where a call of the order link is used, koy_initiator_... or
- * koy_responder_..., with libexports_link.a too (rt staticlib exports_link); neither needs the other. They allocate nothing, keep
- * no state of their own, call nothing but memcpy and memset, and return from every call. Each call is proved to answer every
- * number, every length and every content of the bytes that it is lent as document 01 says.
+ * Link with libexports.a, and where a call of the order link is used, koy_initiator_... or koy_responder_..., with
+ * libexports_link.a too (bindings/archives makes both); neither needs the other. They allocate nothing, keep no state of their
+ * own, call nothing but memcpy and memset, and return from every call. Each call is proved to answer every number, every length
+ * and every content of the bytes that it is lent as document 01 says.
  *
  * What the caller owes, as with memcpy: a pointer and a length name bytes that are there; a pointer may be any that is not
  * null where the length is 0; an array has as many elements as its type says; what a call is lent to write to overlaps

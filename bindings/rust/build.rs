@@ -1,5 +1,5 @@
-// Links libexports.a and libexports_link.a. KOYANDEFA_LIB names their folder; without it the one that `rt staticlib` writes to is
-// taken.
+// Links libexports.a and libexports_link.a. KOYANDEFA_LIB names their folder; without it the one that `bindings/archives` writes
+// to is taken.
 use std::path::PathBuf;
 
 fn main() {
@@ -13,7 +13,7 @@ fn main() {
         let archive = folder.join(format!("lib{name}.a"));
         println!("cargo:rerun-if-changed={}", archive.display());
         if !archive.exists() {
-            panic!("there is no {}: run `rt staticlib {name}`, or set KOYANDEFA_LIB", archive.display());
+            panic!("there is no {}: run `bindings/archives`, or set KOYANDEFA_LIB", archive.display());
         }
         println!("cargo:rustc-link-lib=static={name}");
     }

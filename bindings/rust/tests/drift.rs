@@ -12,8 +12,8 @@ fn text(path: &str) -> String {
 }
 
 fn rattle_source() -> String {
-    let folders = ["exports", "exports_link"]
-        .map(|name| Path::new(env!("CARGO_MANIFEST_DIR")).join("../../crates").join(name).join("src"));
+    let folders = ["telegrams", "stations", "diagnostics", "settings", "link"]
+        .map(|name| Path::new(env!("CARGO_MANIFEST_DIR")).join(format!("../../crates/exports_{name}/src")));
     let files = folders.iter().flat_map(|f| fs::read_dir(f).unwrap_or_else(|e| panic!("{}: {e}", f.display())));
     files.map(|file| fs::read_to_string(file.unwrap().path()).unwrap()).collect()
 }

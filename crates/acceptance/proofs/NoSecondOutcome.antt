@@ -1,50 +1,69 @@
 -- No second outcome fits the promise of any public call of the libraries: its promise determines result, record and every lent byte, in
--- refused calls too.
--- Assumes nothing.
-use Rattle.acceptance.proofs.Outcomes.Codes.{Codes, codes}
-use Rattle.acceptance.proofs.Outcomes.Diagnostics.{Diagnostics, diagnostics}
-use Rattle.acceptance.proofs.Outcomes.Driver.{Driver, driver}
-use Rattle.acceptance.proofs.Outcomes.Exported.{Exported, exported}
-use Rattle.acceptance.proofs.Outcomes.Exports.{Exports, exports}
-use Rattle.acceptance.proofs.Outcomes.Links.{Links, links}
-use Rattle.acceptance.proofs.Outcomes.Stage.{Stage, stage}
-use Rattle.acceptance.proofs.Outcomes.Stations.{Stations, stations}
-use Rattle.acceptance.proofs.Outcomes.Telegrams.{Telegrams, telegrams}
-use Rattle.acceptance.proofs.Outcomes.Texts.{Texts, texts}
+-- refused calls too. Each crate shows it of its own calls, in proofs/Determined.antt; here they stand together.
+use Rattle.codes.proofs.Determined as codes
+use Rattle.diagnostics.proofs.Determined as diagnostics
+use Rattle.exports_diagnostics.proofs.Determined as exportsDiagnostics
+use Rattle.exports_link.proofs.Determined as exportsLink
+use Rattle.exports_settings.proofs.Determined as exportsSettings
+use Rattle.exports_stations.proofs.Determined as exportsStations
+use Rattle.exports_telegrams.proofs.Determined as exportsTelegrams
+use Rattle.ground.proofs.Determined as ground
+use Rattle.initiator.proofs.Determined as initiator
+use Rattle.link_rules.proofs.Determined as linkRules
+use Rattle.link_telegrams.proofs.Determined as linkTelegrams
+use Rattle.listing.proofs.Determined as listing
+use Rattle.responder.proofs.Determined as responder
+use Rattle.responder_row.proofs.Determined as responderRow
+use Rattle.ring_driver.proofs.Determined as ringDriver
+use Rattle.settings.proofs.Determined as settings
+use Rattle.telegram.proofs.Determined as telegram
+use Rattle.telegram_tx.proofs.Determined as telegramTx
+use Rattle.text.proofs.Determined as text
+use Rattle.token_ring.proofs.Determined as tokenRing
 
 pub record EveryCall : Type 2 where
-  -- `codes`
-  pub codes : Codes
-  -- `telegram`, `telegram_tx`
-  pub telegrams : Telegrams
-  -- `token_ring`
-  pub stations : Stations
-  -- `ring_driver`
-  pub driver : Driver
-  -- `diagnostics`
-  pub diagnostics : Diagnostics
-  -- `buffers`, `text`, `settings`, `listing`
-  pub texts : Texts
-  -- `link_rules`, `link_telegrams`, `initiator`, `responder_row`, `responder`
-  pub links : Links
-  -- `exports` and `exports_link`
-  pub exports : Exports
-  -- the crates `exported_…`
-  pub exported : Exported
-  -- `stage`
-  pub stage : Stage
+  pub ground : ground.Calls
+  pub codes : codes.Calls
+  pub telegram : telegram.Calls
+  pub telegramTx : telegramTx.Calls
+  pub tokenRing : tokenRing.Calls
+  pub ringDriver : ringDriver.Calls
+  pub diagnostics : diagnostics.Calls
+  pub text : text.Calls
+  pub settings : settings.Calls
+  pub listing : listing.Calls
+  pub linkRules : linkRules.Calls
+  pub linkTelegrams : linkTelegrams.Calls
+  pub initiator : initiator.Calls
+  pub responderRow : responderRow.Calls
+  pub responder : responder.Calls
+  pub exportsTelegrams : exportsTelegrams.Calls
+  pub exportsStations : exportsStations.Calls
+  pub exportsDiagnostics : exportsDiagnostics.Calls
+  pub exportsSettings : exportsSettings.Calls
+  pub exportsLink : exportsLink.Calls
 
 pub every-call : EveryCall
 every-call =
     record {
-      codes = codes;
-      telegrams = telegrams;
-      stations = stations;
-      driver = driver;
-      diagnostics = diagnostics;
-      texts = texts;
-      links = links;
-      exports = exports;
-      exported = exported;
-      stage = stage;
+      ground = ground.determined;
+      codes = codes.determined;
+      telegram = telegram.determined;
+      telegramTx = telegramTx.determined;
+      tokenRing = tokenRing.determined;
+      ringDriver = ringDriver.determined;
+      diagnostics = diagnostics.determined;
+      text = text.determined;
+      settings = settings.determined;
+      listing = listing.determined;
+      linkRules = linkRules.determined;
+      linkTelegrams = linkTelegrams.determined;
+      initiator = initiator.determined;
+      responderRow = responderRow.determined;
+      responder = responder.determined;
+      exportsTelegrams = exportsTelegrams.determined;
+      exportsStations = exportsStations.determined;
+      exportsDiagnostics = exportsDiagnostics.determined;
+      exportsSettings = exportsSettings.determined;
+      exportsLink = exportsLink.determined;
     }

@@ -1,7 +1,6 @@
 -- Demand 2 holds of ours: of the definitions that the promises of the calls cite.
--- Assumes nothing.
 use mathlib.Core.Path.{ap, sym}
-use Rattle.acceptance.proofs.OurStations.{ours, ours-is}
+use Rattle.station_lists.proofs.OurStations.{ours, ours-is}
 use Rattle.acceptance.specs.Demand2.{IsReader, IsWriter, IsWalk, Demand2}
 use Rattle.diagnostics.proofs.RoundTrip.{row-walked}
 use Rattle.diagnostics.proofs.WholeWalk.{whole-walk}

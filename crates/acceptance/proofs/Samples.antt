@@ -1,22 +1,21 @@
 -- The samples of document 01 that are marked P, computed on the definitions that the promises cite.
--- Assumes nothing.
 use mathlib.Core.Path.{refl}
 use Rattle.acceptance.specs.Samples.{Samples}
 use Rattle.codes.specs.Checksums.{sumOf, checksumOf}
 use Rattle.codes.specs.FunctionCodes.{functionCodeOf}
-use Rattle.codes.specs.Part.{shownPart}
+use Rattle.ground.specs.Part.{shownPart}
 use Rattle.codes.specs.RequestTypes.{requestTypeOf}
 use Rattle.codes.specs.Responses.{stateOf, statusOf}
 use Rattle.diagnostics.specs.Channel.{errorOf, typeOf}
 use Rattle.diagnostics.specs.Modules.{bitOf, modulesOf, firstOf}
 use Rattle.diagnostics.specs.Walk.{blockAt, headedBy, lengthOf, stepOf}
-use Rattle.link_telegrams.specs.Heard.{fromPeerOf, requestHeardOf}
+use Rattle.link_telegrams.specs.Heard.{dataToOf, requestToOf, requestHeardOf}
 use Rattle.telegram.specs.Reading.{headerAt, sapsAt, contentOf, frameOf, lengthsOf, dataOf, tokenOf, readOf}
 use Rattle.token_ring.specs.Flags.{cleared, quiet, lowestFrom, highestBelow}
 use Rattle.token_ring.specs.Rules.{swept, passed, nextOf, previousOf, holds, fresh, made, inPhase, withFlags, updated, effectOf, effected, witnessed}
 
 pub samples : Samples
-unfolding sumOf checksumOf functionCodeOf shownPart requestTypeOf stateOf statusOf errorOf typeOf bitOf modulesOf firstOf blockAt headedBy lengthOf stepOf fromPeerOf requestHeardOf headerAt sapsAt contentOf frameOf lengthsOf dataOf tokenOf readOf cleared quiet lowestFrom highestBelow swept passed nextOf previousOf holds fresh made inPhase withFlags updated effectOf effected witnessed
+unfolding sumOf checksumOf functionCodeOf shownPart requestTypeOf stateOf statusOf errorOf typeOf bitOf modulesOf firstOf blockAt headedBy lengthOf stepOf dataToOf requestToOf requestHeardOf headerAt sapsAt contentOf frameOf lengthsOf dataOf tokenOf readOf cleared quiet lowestFrom highestBelow swept passed nextOf previousOf holds fresh made inPhase withFlags updated effectOf effected witnessed
 samples =
     record {
       orderAtLow = refl;

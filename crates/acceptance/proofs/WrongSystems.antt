@@ -1,6 +1,5 @@
 -- Systems for which demand 2 is refuted: the wrong reader and station list that document 01 names, its traps, and wrong ones of the other
--- kinds. Each is any system that has the fault. (Demand 3's are in `link` and `order_link`.)
--- Assumes nothing.
+-- kinds. Each is any system that has the fault. (Demand 3's are in `link_model` and `link_theorem`.)
 use Prim.Native.Nat.{ℕ, _≤_}
 use mathlib.Core.Bool.{Bool, true, false}
 use mathlib.Core.List.{List, [], _∷_}
@@ -9,11 +8,12 @@ use native.Mathlib.Omega.{arith}
 use borrow.Author.Tests.{ltb-true}
 use lib.Dec.{eqb, ltb, lit≤}
 use lib.ListN.{length}
+use Rattle.ground.proofs.Injective.{zero-one}
 use Rattle.acceptance.specs.Demand2.{IsReader, IsWriter, IsWalk}
-use Rattle.acceptance.specs.StationLists.{StationList, PassHolds, Reached, by-new, by-witness, IsStationList}
+use Rattle.station_lists.specs.StationLists.{StationList, PassHolds, Reached, by-new, by-witness, IsStationList}
 use Rattle.codes.specs.Checksums.{sumOf, checksumOf}
 use Rattle.codes.specs.FunctionCodes.{functionCodeOf}
-use Rattle.codes.specs.Pick.{if}
+use Rattle.ground.specs.Pick.{if}
 use Rattle.codes.specs.RequestTypes.{requestTypeOf}
 use Rattle.codes.specs.Responses.{stateOf, statusOf}
 use Rattle.codes.specs.declared.frame_count_bit.FrameCountBit.the-variants.{First}
@@ -37,10 +37,6 @@ use Rattle.text.specs.Decimal.{numberAt}
 use Rattle.text.specs.declared.decimal.Number.the-variants.{Is}
 use Rattle.token_ring.specs.declared.las_state.LasState.the-variants.{Uninitialized, Discovery, Verification}
 
--- what no proof should meet
-clash : _≡_ {A = ℕ} 0 1 → ⊥
-clash z = omega arith
-
 -- ---- readers
 
 abbrev confirmation : List ℕ
@@ -60,7 +56,7 @@ small (b ∷ s) = if (ltb b 256) (small s) false
 
 one-more : (b : ℕ) (s : List ℕ) (t : Bool) → ltb b 256 ≡ t → if t (small s) false ≡ true → (small s ≡ true → Bytes s) → Bytes (b ∷ s)
 one-more b s true f g rest = one-more-byte b s (ltb-true b 256 f) (rest g)
-one-more b s false f g rest = absurd (clash (cc))
+one-more b s false f g rest = absurd (zero-one (cc))
 
 bytes : (s : List ℕ) → small s ≡ true → Bytes s
 bytes [] e = empty-bytes
@@ -69,7 +65,7 @@ bytes (b ∷ s) e = one-more b s (ltb b 256) refl e (bytes s)
 -- no telegram begins there: ours refuses it with 6
 late-not-begun : (t : Telegram) (n : ℕ) → Begins document01 summedLate t n → ⊥
 unfolding sumOf checksumOf functionCodeOf requestTypeOf stateOf statusOf headerAt sapsAt contentOf frameOf lengthsOf dataOf tokenOf readOf
-late-not-begun t n b = let e = picture-reads b in clash (cc)
+late-not-begun t n b = let e = picture-reads b in zero-one (cc)
 
 module _ (read : List ℕ → Reading) (is : IsReader read) where
   confirms : read confirmation ≡ whole ShortConfirmation 1
@@ -87,7 +83,7 @@ module _ (read : List ℕ → Reading) (is : IsReader read) where
   one-for-all one all =
       let a = all confirmation ShortConfirmation 1 (bytes confirmation refl) confirms in
       let b = all token _ 3 (bytes token refl) passes in
-      clash (cc)
+      zero-one (cc)
 
   -- "Summing the checksum after the SAPs only"
   pub sums-after-the-saps : (t : Telegram) (n : ℕ) → read summedLate ≡ whole t n → ⊥
@@ -128,7 +124,7 @@ module _ (walk : List ℕ → Walk) (is : IsWalk walk) where
 
   -- a walk that finds nothing
   pub walk-finds-nothing : ((s : List ℕ) → walk s .blocks ≡ []) → ⊥
-  walk-finds-nothing none = let e = sym (none (1 ∷ [])) ∙ ap (λ w. w .blocks) goes-on in clash (cc)
+  walk-finds-nothing none = let e = sym (none (1 ∷ [])) ∙ ap (λ w. w .blocks) goes-on in zero-one (cc)
 
 -- ---- station lists
 
@@ -151,21 +147,21 @@ module _ (S : StationList) (is : IsStationList S) where
 
   -- "a station list that never moves": one whose phase a pass never changes, and one whose set a pass never changes
   pub never-moves : ((sa da : ℕ) (r : S .State) → S .phase (S .witness sa da r) ≡ S .phase r) → ⊥
-  never-moves still = let e = sym second-phase ∙ still 9 2 first ∙ first-phase in clash (cc)
+  never-moves still = let e = sym second-phase ∙ still 9 2 first ∙ first-phase in zero-one (cc)
 
   pub never-learns : ((sa da a : ℕ) (r : S .State) → S .active (S .witness sa da r) a ≡ S .active r a) → ⊥
   never-learns still =
       let e = sym (is .discovery 2 5 second (by-witness 9 2 (by-new 7)) (lit≤ tt) (lit≤ tt) second-phase .active 2) ∙ still 2 5 2 second ∙ second-clear 2 in
-      clash (cc)
+      zero-one (cc)
 
   -- "Updating flags in Uninitialized"
   pub updates-uninitialized : S .active second 9 ≡ true → ⊥
-  updates-uninitialized set = let e = sym set ∙ second-clear 9 in clash (cc)
+  updates-uninitialized set = let e = sym set ∙ second-clear 9 in zero-one (cc)
 
   -- "or moving to Verification after a failed wrap"
   pub verification-after-a-failed-wrap : (sa da : ℕ) (r : S .State) → Reached S r → sa ≤ 125 → da ≤ sa → S .phase r ≡ Verification → (PassHolds (S .active r) sa da → ⊥) → S .phase (S .witness sa da r) ≡ Verification → ⊥
   verification-after-a-failed-wrap sa da r w h wraps e fails moves =
-      let f = sym (is .failed sa da r w h (omega arith) e fails .phase) ∙ moves in clash (cc)
+      let f = sym (is .failed sa da r w h (omega arith) e fails .phase) ∙ moves in zero-one (cc)
 
 -- ---- the lister
 

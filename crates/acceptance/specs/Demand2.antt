@@ -1,10 +1,9 @@
 -- Demand 2, stated of any reader, writer, station list and walk, so that wrong ones can be refuted: reading and writing against the
 -- standard's picture of a telegram, the walk against the standard's row of blocks, the station list against its rules.
--- Assumes nothing.
 use Prim.Native.Nat.{ℕ, _≤_}
 use mathlib.Core.List.{List}
 use mathlib.Core.Path.{_≡_}
-use Rattle.acceptance.specs.StationLists.{StationList, IsStationList}
+use Rattle.station_lists.specs.StationLists.{StationList, IsStationList}
 use Rattle.diagnostics.specs.Blocks.{Block, RowSays}
 use Rattle.diagnostics.specs.Walk.{Walk, whole as walkedWhole}
 use Rattle.telegram.specs.Begins.{Bytes, standard, document01, DrawsData, Begins}

@@ -1,4 +1,2 @@
 pub mod Demand2
-pub mod OneOutcome
 pub mod Samples
-pub mod StationLists

@@ -2,17 +2,16 @@
 -- cite: `readOf` (`Telegram::deserialize`), `shownPart` (`DataTelegram::pdu`), `requestHeardOf` (`request_heard`), `made` and `witnessed`
 -- (`TokenRing::new`, `witness_token_pass`), `stepOf` (`ExtDiagBlockIter::next`), `bodyOf` (the bytes of a block's body) and `firstOf`
 -- (`modules::first_set`). Bytes are hexadecimal.
--- Assumes nothing.
 use Prim.Native.Nat.{ℕ}
 use mathlib.Core.Bool.{true}
 use mathlib.Core.List.{List, [], _∷_}
 use mathlib.Core.Option.{some, none}
 use mathlib.Core.Path.{_≡_}
-use Rattle.codes.specs.Part.{shownPart}
+use Rattle.ground.specs.Part.{shownPart}
 use Rattle.codes.specs.declared.frame_count_bit.FrameCountBit.the-variants.{First, Low}
 use Rattle.codes.specs.declared.function_code.FunctionCode.{FunctionCode}
 use Rattle.codes.specs.declared.function_code.FunctionCode.the-variants.{Request}
-use Rattle.codes.specs.declared.part.Part.{Part}
+use Rattle.ground.specs.declared.part.Part.{Part}
 use Rattle.codes.specs.declared.request_type.RequestType.the-variants.{SrdLow}
 use Rattle.diagnostics.specs.Modules.{firstOf}
 use Rattle.diagnostics.specs.Shown.{shownError, shownType}
@@ -27,7 +26,7 @@ use Rattle.telegram.specs.declared.header.SapOption.{SapOption}
 use Rattle.telegram.specs.declared.header.SapOption.the-variants.{Some, None}
 use Rattle.telegram.specs.declared.kinds.Telegram.the-variants.{Data}
 use Rattle.token_ring.specs.Rules.{made}
-use Rattle.token_ring.specs.Passes.{_to_, after, Told, told}
+use Rattle.token_ring.specs.Passes.{_to_, after, ShownList, shownList}
 use Rattle.token_ring.specs.declared.las_state.LasState.{LasState}
 use Rattle.token_ring.specs.declared.las_state.LasState.the-variants.{Discovery, Verification, Valid}
 use Rattle.token_ring.specs.declared.ring.TokenRing.{TokenRing}
@@ -55,7 +54,7 @@ abbrev body : List ℕ → ℕ → ℕ → List ℕ
 body walked start len = bodyOf walked start len
 
 -- what is told of a station list: its active stations, next, previous and phase
-abbrev list : List ℕ → ℕ → ℕ → LasState → Told
+abbrev list : List ℕ → ℕ → ℕ → LasState → ShownList
 list stations next previous phase = record { stations = stations; next = next; previous = previous; phase = phase }
 
 -- own 7: 9-2, 2-5, 5-9, 9-2
@@ -69,7 +68,7 @@ order sum end = 0x68 ∷ 0x05 ∷ 0x05 ∷ 0x68 ∷ 0x05 ∷ 0x02 ∷ 0x5C ∷ 0
 pub record Samples : Type 0 where
   -- "68 05 05 68 05 02 5C 01 03 67 16: order at Low, PDU 01 03; with last byte 17: 7; with 66 for 67: 6"
   pub orderAtLow : readOf (order 0x67 0x16) ≡ from2to5 None None (Request Low SrdLow) (from 7 2)
-  pub orderHeard : requestHeardOf (record { 0 = 5 }) (record { 0 = 2 }) (order 0x67 0x16) ≡ Order bit.Low (from 7 2)
+  pub orderHeard : requestHeardOf (record { own = record { 0 = 5 }; peer = record { 0 = 2 } }) (order 0x67 0x16) ≡ Order bit.Low (from 7 2)
   pub orderPdu : shownPart (from 7 2) (order 0x67 0x16) ≡ 0x01 ∷ 0x03 ∷ []
   pub lastByte17 : readOf (order 0x67 0x17) ≡ refused 7
   pub sum66 : readOf (order 0x66 0x16) ≡ refused 6
@@ -80,12 +79,12 @@ pub record Samples : Type 0 where
   pub tooFew : readOf (0x68 ∷ 0x03 ∷ 0x04 ∷ []) ≡ incomplete
   pub lengthTwo : readOf (0x68 ∷ 0x02 ∷ 0x02 ∷ 0x00 ∷ 0x00 ∷ 0x00 ∷ []) ≡ refused 3
   -- "own 7: 9-2, 2-5, 5-9, 9-2 leaves {2,5,9}, next 9, previous 5, Verification; 2-5, 5-9, 9-2 makes Valid"
-  pub discovered : told own7 ≡ list (2 ∷ 5 ∷ 9 ∷ []) 9 5 Verification
-  pub verified : told (after (2 to 5 ∷ 5 to 9 ∷ 9 to 2 ∷ []) own7) ≡ list (2 ∷ 5 ∷ 9 ∷ []) 9 5 Valid
+  pub discovered : shownList own7 ≡ list (2 ∷ 5 ∷ 9 ∷ []) 9 5 Verification
+  pub verified : shownList (after (2 to 5 ∷ 5 to 9 ∷ 9 to 2 ∷ []) own7) ≡ list (2 ∷ 5 ∷ 9 ∷ []) 9 5 Valid
   -- "own 3: 3-3 three times is Valid, {3}"
-  pub alone : told (after (3 to 3 ∷ 3 to 3 ∷ 3 to 3 ∷ []) (made 3)) ≡ list (3 ∷ []) 3 3 Valid
+  pub alone : shownList (after (3 to 3 ∷ 3 to 3 ∷ 3 to 3 ∷ []) (made 3)) ≡ list (3 ∷ []) 3 3 Valid
   -- "{2,5,9} in Verification, 9-5: {5,9}, Discovery"
-  pub changed : told (after (9 to 5 ∷ []) own7) ≡ list (5 ∷ 9 ∷ []) 9 5 Discovery
+  pub changed : shownList (after (9 to 5 ∷ []) own7) ≡ list (5 ∷ 9 ∷ []) 9 5 Discovery
   -- "42 05: modules 0 and 2"
   pub identifier : stepOf (0x42 ∷ 0x05 ∷ []) 0 ≡ record { answer = block (identifierAt 1 1); cursor = 2 }
   pub module0 : firstOf (body (0x42 ∷ 0x05 ∷ []) 1 1) 0 ≡ some 0

@@ -60,14 +60,10 @@ fn print_error(error: ChannelError) {
 fn print_channel(channel: ChannelDiagnostics) {
     let dtype = channel.dtype;
     let error = channel.error;
-    print::text(b" module=");
-    print::byte(channel.module);
-    print::text(b" channel=");
-    print::byte(channel.channel);
-    print::text(b" input=");
-    print::flag(channel.input);
-    print::text(b" output=");
-    print::flag(channel.output);
+    print::named_byte(b" module=", channel.module);
+    print::named_byte(b" channel=", channel.channel);
+    print::named_flag(b" input=", channel.input);
+    print::named_flag(b" output=", channel.output);
     print::text(b" type=");
     print_type(dtype);
     print::text(b" error=");
@@ -79,8 +75,8 @@ fn print_block(block: ExtDiagBlock, diag: ExtendedDiagnostics, store: &[u8]) {
         ExtDiagBlock::Identifier(body) => print_identifier(body.show(diag.raw_diag_buffer(store))),
         ExtDiagBlock::Channel(channel) => print_channel(channel),
         ExtDiagBlock::Device(body) => {
-            print::text(b" device=");
-            print::decimal(body.show(diag.raw_diag_buffer(store)).len());
+            let shown = body.show(diag.raw_diag_buffer(store));
+            print::named_decimal(b" device=", shown.len());
         }
     }
 }
@@ -98,8 +94,7 @@ fn first(name: &[u8], store: &[u8]) {
         Found::Refused(refusal) => print::refused(refusal),
     }
     let after = step.iter;
-    print::text(b" cursor=");
-    print::decimal(after.cursor);
+    print::named_decimal(b" cursor=", after.cursor);
     print::end();
 }
 

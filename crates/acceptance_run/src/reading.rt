@@ -5,7 +5,8 @@ use telegram::Deserialized;
 use telegram::SapOption;
 use telegram::Telegram;
 
-fn print_sap(sap: SapOption) {
+fn print_sap(key: &[u8], sap: SapOption) {
+    print::text(key);
     match sap {
         SapOption::Some(sap) => print::byte(sap.0),
         SapOption::None => print::text(b"-"),
@@ -17,27 +18,19 @@ fn print_header(t: DataTelegram) {
     let dsap = h.dsap;
     let ssap = h.ssap;
     let fc = h.fc;
-    print::text(b" da=");
-    print::byte(h.da.0);
-    print::text(b" sa=");
-    print::byte(h.sa.0);
-    print::text(b" dsap=");
-    print_sap(dsap);
-    print::text(b" ssap=");
-    print_sap(ssap);
-    print::text(b" fc=");
-    print::byte(fc.to_byte());
+    print::named_byte(b" da=", h.da.0);
+    print::named_byte(b" sa=", h.sa.0);
+    print_sap(b" dsap=", dsap);
+    print_sap(b" ssap=", ssap);
+    print::named_byte(b" fc=", fc.to_byte());
 }
 
 // The PDU's length, and its first bytes where it has two.
 fn print_pdu(pdu: &[u8]) {
-    print::text(b" pdu=");
-    print::decimal(pdu.len());
+    print::named_decimal(b" pdu=", pdu.len());
     if pdu.len() == 2 {
-        print::text(b" bytes=");
-        print::byte(pdu[0]);
-        print::text(b",");
-        print::byte(pdu[1]);
+        print::named_byte(b" bytes=", pdu[0]);
+        print::named_byte(b",", pdu[1]);
     }
 }
 
@@ -56,8 +49,7 @@ pub(crate) fn read(name: &[u8], bytes: &[u8]) {
     print::sample(name);
     match Telegram::deserialize(bytes) {
         Deserialized::Telegram(telegram, total) => {
-            print::text(b" len=");
-            print::decimal(total);
+            print::named_decimal(b" len=", total);
             print_telegram(telegram, bytes);
         }
         Deserialized::Incomplete => print::text(b" answer=incomplete"),

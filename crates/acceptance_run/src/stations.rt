@@ -1,6 +1,6 @@
 // The station list: its active stations, next, previous and phase after a row of passes.
 use crate::print;
-use codes::Address;
+use ground::Address;
 use token_ring::Found;
 use token_ring::LasState;
 use token_ring::TokenRing;
@@ -42,11 +42,9 @@ fn print_list(name: &[u8], ring: TokenRing) {
     print::sample(name);
     print_stations(ring);
     let next = ring.next_station();
-    print::text(b" next=");
-    print::byte(next.0);
+    print::named_byte(b" next=", next.0);
     let previous = ring.previous_station();
-    print::text(b" previous=");
-    print::byte(previous.0);
+    print::named_byte(b" previous=", previous.0);
     print::text(b" phase=");
     print_phase(ring.las_state());
     print::end();

@@ -1,9 +1,9 @@
 // Writing: PDUs around the longest one, into buffers around its length. What was written is read again.
 use crate::print;
 use crate::reading;
-use codes::Address;
 use codes::FrameCountBit;
 use codes::FunctionCode;
+use ground::Address;
 use telegram::AddressOption;
 use telegram::DataTelegramHeader;
 use telegram::SapOption;
@@ -33,15 +33,13 @@ fn write(name: &[u8], pdu: &[u8], buf: &mut [u8]) {
     print::sample(name);
     match send_data_telegram(header(), pdu, buf) {
         TelegramTxResult::Sent(response) => {
-            print::text(b" sent=");
-            print::decimal(response.bytes_sent());
+            print::named_decimal(b" sent=", response.bytes_sent());
             print_replier(response.expects_reply());
         }
         TelegramTxResult::Refused(refusal) => print::refused(refusal),
     }
     if 0 < buf.len() {
-        print::text(b" first=");
-        print::byte(buf[0]);
+        print::named_byte(b" first=", buf[0]);
     }
     print::end();
 }

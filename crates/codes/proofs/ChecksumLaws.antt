@@ -1,5 +1,4 @@
 -- Laws of the checksum: of a list joined from two, and of a loop that adds byte by byte.
--- Assumes nothing.
 use Prim.Native.Nat.{ℕ, _+_, _%_, _<_, _≤_}
 use mathlib.Core.Path.{_≡_, refl, sym, _∙_}
 use mathlib.Core.List.{List, [], _∷_, _++_}

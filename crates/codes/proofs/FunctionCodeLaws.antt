@@ -1,18 +1,19 @@
--- Laws of the function code: what is written is read back; what is read is written back, but for bit 7 of a response;
--- exactly 120 of the 256 bytes are read.
--- Assumes nothing.
+-- Laws of the function code: what is written is read back (`read-written`); what is read is written back, but for bit 7 of a response
+-- (`written-read`); exactly 120 of the 256 bytes are read; and a code is read from its bytes and from no other (`code-read-exactly`).
 use Prim.Native.Nat.{ℕ, zero, suc, _+_, _/_, _%_, _<_}
-use mathlib.Core.Path.{_≡_, refl, sym, _∙_, ap}
+use mathlib.Core.Path.{_≡_, refl, _∙_}
 use mathlib.Core.Bool.{Bool, true, false}
 use native.Mathlib.Nat.{add-zero, zero-add, add-suc, suc-add, le-of-suc-le-suc, not-suc-le-zero}
 use native.Mathlib.Omega.{arith}
-use lib.Dec.{eqb}
-use borrow.Author.Tests.{eqb-true, eq-eqb, ne-eqb}
+use lib.Dec.{eqb, leb}
+use borrow.Author.Tests.{eqb-true, eq-eqb, ne-eqb, leb-true, leb-false}
 use Rattle.codes.proofs.NumberLaws.{frame-count-part-small, request-number-small, state-number-small, status-number-small}
-use Rattle.codes.proofs.PickLaws.{both-first, both-second}
+use Rattle.ground.proofs.Injective.{led-back, zero-one}
+use Rattle.ground.proofs.PickLaws.{both-first, both-second}
 use Rattle.codes.specs.FrameCountBits.{frameCountBitOf}
-use Rattle.codes.specs.FunctionCodes.{bit, requestBits, requestOf, responseOf, functionCodeOf, codeByte, keptByte, readFrom}
-use Rattle.codes.specs.Pick.{if}
+use Rattle.ground.specs.Bits.{bit}
+use Rattle.codes.specs.FunctionCodes.{requestBits, requestOf, responseOf, functionCodeOf, codeByte, CodeRead, asWritten, bit7Set, keptByte, readFrom}
+use Rattle.ground.specs.Pick.{if}
 use Rattle.codes.specs.RequestTypes.{requestTypeOf}
 use Rattle.codes.specs.Responses.{stateOf, statusOf}
 use Rattle.codes.specs.declared.frame_count_bit.FrameCountBit.{FrameCountBit}
@@ -27,17 +28,24 @@ use Rattle.codes.specs.declared.request_type.RequestTypeFound.{RequestTy
 use Rattle.codes.specs.declared.response.ResponseState.{ResponseState}
 use Rattle.codes.specs.declared.response.ResponseState.the-variants.{Slave, MasterNotReady, MasterWithoutToken, MasterInRing}
 use Rattle.codes.specs.declared.response.ResponseStateFound.{ResponseStateFound}
+use Rattle.codes.specs.declared.response.ResponseStateFound.the-variants as stateFound
 use Rattle.codes.specs.declared.response.ResponseStatus.{ResponseStatus}
 use Rattle.codes.specs.declared.response.ResponseStatus.the-variants.{Ok, UserError, NoResources, SapNotEnabled, DataLow, NoDataReady, DataHigh, NotReceivedDataLow, NotReceivedDataHigh}
 use Rattle.codes.specs.declared.response.ResponseStatusFound.{ResponseStatusFound}
+use Rattle.codes.specs.declared.response.ResponseStatusFound.the-variants as statusFound
 
+-- ---- what is written is read back
+
+-- What holds at each frame count bit, and at each state, holds at any.
 every-bit : (P : FrameCountBit → Type 0) → P First → P High → P Low → P Inactive → (b : FrameCountBit) → P b
 every-bit P a b c d First = a
 every-bit P a b c d High = b
 every-bit P a b c d Low = c
 every-bit P a b c d Inactive = d
 
-every-state : (P : ResponseState → Type 0) → P Slave → P MasterNotReady → P MasterWithoutToken → P MasterInRing → (s : ResponseState) → P s
+every-state :
+    (P : ResponseState → Type 0) → P Slave → P MasterNotReady → P MasterWithoutToken → P MasterInRing
+    → (s : ResponseState) → P s
 every-state P a b c d Slave = a
 every-state P a b c d MasterNotReady = b
 every-state P a b c d MasterWithoutToken = c
@@ -81,7 +89,15 @@ read-written (Request fcb req) = request-again fcb req
 read-written (Response state status) = response-again state status
 
 pub code-byte-injective : (x y : FunctionCode) → codeByte x ≡ codeByte y → x ≡ y
-code-byte-injective x y e = let h : Is x ≡ Is y = sym (read-written x) ∙ ap functionCodeOf e ∙ read-written y in cc
+code-byte-injective x y e = let h : Is x ≡ Is y = led-back codeByte Is functionCodeOf read-written x y e in cc
+
+-- A written function code is a byte.
+pub code-byte-small : (code : FunctionCode) → codeByte code < 256
+unfolding codeByte
+code-byte-small (Request fcb req) = omega (arith, frame-count-part-small fcb, request-number-small req)
+code-byte-small (Response state status) = omega (arith, state-number-small state, status-number-small status)
+
+-- ---- what is read is written back: computed at all 256 bytes
 
 -- A test at each of n numbers from i on, and what it says of one of them.
 allFrom : (ℕ → Bool) → ℕ → ℕ → Bool
@@ -107,10 +123,12 @@ all-kept : allFrom keptAt 0 256 ≡ true
 unfolding allFrom keptAt kept functionCodeOf codeByte requestTypeOf stateOf statusOf
 all-kept = refl
 
-kept-is : (b : ℕ) (code : FunctionCode) (found : FunctionCodeFound) → kept b found ≡ true → found ≡ Is code → codeByte code ≡ keptByte b
+kept-is :
+    (b : ℕ) (code : FunctionCode) (found : FunctionCodeFound) → kept b found ≡ true → found ≡ Is code
+    → codeByte code ≡ keptByte b
 unfolding kept
 kept-is b code (Is c) t e = let h : c ≡ code = cc in rw h at (eqb-true (codeByte c) (keptByte b) t)
-kept-is b code Nothing t e = let z : _≡_ {A = ℕ} 0 1 = cc in absurd (omega arith)
+kept-is b code Nothing t e = absurd (zero-one (cc))
 
 -- "Writing gives the same byte back, except that a response loses bit 7."
 pub written-read : (b : ℕ) → b < 256 → (code : FunctionCode) → functionCodeOf b ≡ Is code → codeByte code ≡ keptByte b
@@ -122,18 +140,73 @@ pub exactly-120-are-read : readFrom 0 256 ≡ 120
 unfolding readFrom functionCodeOf requestTypeOf stateOf statusOf
 exactly-120-are-read = refl
 
--- A written function code is a byte.
-pub code-byte-small : (code : FunctionCode) → codeByte code < 256
-unfolding codeByte
-code-byte-small (Request fcb req) = omega (arith, frame-count-part-small fcb, request-number-small req)
-code-byte-small (Response state status) = omega (arith, state-number-small state, status-number-small status)
+-- ---- the bytes of a code
 
--- For a reader of a byte. Bit 6 set: it is the request of the type and the frame count bit that were found.
-pub request-read : (b : ℕ) (fcb : FrameCountBit) (found : RequestTypeFound) → b / 64 % 2 ≡ 1 → fcb ≡ frameCountBitOf (bit 4 b) (bit 5 b) → found ≡ requestTypeOf (requestBits b) → requestOf fcb found ≡ functionCodeOf b
+-- Bit 7 is looked at in a request alone.
+bit7-ignored : (b : ℕ) → b < 64 → functionCodeOf (b + 128) ≡ functionCodeOf b
+unfolding functionCodeOf
+bit7-ignored b h =
+    let high : (b + 128) / 64 ≡ 2 = omega arith in
+    let low : b / 64 ≡ 0 = omega arith in
+    let state : (b + 128) / 16 % 4 ≡ b / 16 % 4 = omega arith in
+    let status : (b + 128) % 16 ≡ b % 16 = omega arith in
+    rw (high, low, state, status)
+
+-- Every byte of a function code is read as it.
+pub code-reads : {fc : FunctionCode} {b : ℕ} → CodeRead fc b → functionCodeOf b ≡ Is fc
+unfolding codeByte
+code-reads {fc} asWritten = read-written fc
+code-reads (bit7Set {state} {status}) =
+    bit7-ignored _ (omega (arith, state-number-small state, status-number-small status))
+    ∙ read-written (Response state status)
+
+-- A response's byte, with bit 7 either way.
+either-way :
+    (x : ResponseStateFound) (y : ResponseStatusFound) (fc : FunctionCode) (b : ℕ) (t : Bool) → leb 128 b ≡ t → b < 256
+    → responseOf x y ≡ Is fc → codeByte fc ≡ b % 128
+    → CodeRead fc b
+either-way (stateFound.Is state) (statusFound.Is status) fc b true t h e k =
+    let is : Response state status ≡ fc = cc in
+    let byte : codeByte (Response state status) + 128 ≡ b = omega (arith, leb-true 128 b t, rw (← is) at k) in
+    rw (← is, ← byte) bit7Set
+either-way (stateFound.Is state) (statusFound.Is status) fc b false t h e k =
+    let byte : codeByte fc ≡ b = omega (arith, leb-false 128 b t) in
+    rw (← byte) asWritten
+either-way (stateFound.Is state) statusFound.Nothing fc b t q h e k = absurd (zero-one (cc))
+either-way stateFound.Nothing y fc b t q h e k = absurd (zero-one (cc))
+
+by-bit6 :
+    (b : ℕ) → b < 256 → (fc : FunctionCode) → functionCodeOf b ≡ Is fc → (t : Bool) → bit 6 b ≡ t
+    → CodeRead fc b
+unfolding functionCodeOf
+by-bit6 b h fc e true q = let byte : codeByte fc ≡ b = rw q at (written-read b h fc e) in rw (← byte) asWritten
+by-bit6 b h fc e false q =
+    either-way (stateOf (b / 16 % 4)) (statusOf (b % 16)) fc b (leb 128 b) refl h (rw q at e) (rw q at (written-read b h fc e))
+
+-- A byte that is read as a function code is one of its bytes.
+pub read-code : (b : ℕ) → b < 256 → (fc : FunctionCode) → functionCodeOf b ≡ Is fc → CodeRead fc b
+read-code b h fc e = by-bit6 b h fc e (bit 6 b) refl
+
+-- A code is read from exactly its bytes.
+pub code-read-exactly :
+    (b : ℕ) → b < 256 → (fc : FunctionCode)
+    → (functionCodeOf b ≡ Is fc → CodeRead fc b) × (CodeRead fc b → functionCodeOf b ≡ Is fc)
+code-read-exactly b h fc = (read-code b h fc, code-reads)
+
+-- ---- the reader of a byte, test by test
+
+-- Bit 6 set: it is the request of the type and the frame count bit that were found.
+pub request-read :
+    (b : ℕ) (fcb : FrameCountBit) (found : RequestTypeFound)
+    → b / 64 % 2 ≡ 1 → fcb ≡ frameCountBitOf (bit 4 b) (bit 5 b) → found ≡ requestTypeOf (requestBits b)
+    → requestOf fcb found ≡ functionCodeOf b
 unfolding functionCodeOf
 request-read b fcb found set bits type = rw (eq-eqb _ _ set, bits, type)
 
 -- Bit 6 clear: it is the response of the state and the status that were found.
-pub response-read : (b : ℕ) (state : ResponseStateFound) (status : ResponseStatusFound) → (b / 64 % 2 ≡ 1 → ⊥) → state ≡ stateOf (b / 16 % 4) → status ≡ statusOf (b % 16) → responseOf state status ≡ functionCodeOf b
+pub response-read :
+    (b : ℕ) (state : ResponseStateFound) (status : ResponseStatusFound)
+    → (b / 64 % 2 ≡ 1 → ⊥) → state ≡ stateOf (b / 16 % 4) → status ≡ statusOf (b % 16)
+    → responseOf state status ≡ functionCodeOf b
 unfolding functionCodeOf
 response-read b state status clear e f = rw (ne-eqb _ _ clear, e, f)

@@ -1,5 +1,9 @@
-pub mod ChecksumLaws
+-- Read `FunctionCodeLaws`; the rest serves it.
+-- the function code, read and written: inverses on the 120 bytes; the bytes of a code
 pub mod FunctionCodeLaws
+-- the numbers of the codes, each looked up again
 pub mod NumberLaws
-pub mod PartLaws
-pub mod PickLaws
+-- the checksum of a joined list
+pub mod ChecksumLaws
+-- no second outcome fits the promise of any public call
+pub mod Determined

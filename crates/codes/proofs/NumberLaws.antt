@@ -1,20 +1,18 @@
--- Laws of the numbers of the codes: how large they are, that each is looked up again, and so that no two are alike.
--- Assumes nothing.
-use Prim.Native.Nat.{ℕ, _≤_}
-use mathlib.Core.Path.{_≡_, refl, sym, _∙_, ap}
-use mathlib.Core.List.{List, [], _∷_}
+-- Laws of the numbers of the codes: how large they are, that each is looked up again, and so that no two are alike. A section for each type.
+use Prim.Native.Nat.{_≤_}
+use mathlib.Core.Path.{_≡_, refl, ap}
 use lib.Dec.{lit≤}
+use Rattle.ground.proofs.Injective.{injective, led-back}
+use Rattle.ground.proofs.RefusalLaws.{refusalOf, refusal-again}
+use Rattle.ground.specs.Refusals.{OrRefused, gives, refused}
+use Rattle.codes.specs.FrameCountBits.{shownCycled}
 use Rattle.codes.specs.FunctionCodes.{frameCountPart}
-use Rattle.codes.specs.Lookup.{lookup}
-use Rattle.codes.specs.Refusals.{numberOf, shown}
 use Rattle.codes.specs.RequestTypes.{requestNumber, requestTypeOf}
 use Rattle.codes.specs.Responses.{stateNumber, stateOf, statusNumber, statusOf}
+use Rattle.codes.specs.declared.frame_count_bit.Cycled.{Cycled}
+use Rattle.codes.specs.declared.frame_count_bit.Cycled.the-variants as cycled
 use Rattle.codes.specs.declared.frame_count_bit.FrameCountBit.{FrameCountBit}
 use Rattle.codes.specs.declared.frame_count_bit.FrameCountBit.the-variants.{First, High, Low, Inactive}
-use Rattle.codes.specs.declared.refusal.Answer.{Answer}
-use Rattle.codes.specs.declared.refusal.Answer.the-variants.{Done, Refused}
-use Rattle.codes.specs.declared.refusal.Refusal.{Refusal}
-use Rattle.codes.specs.declared.refusal.Refusal.the-variants as refusal
 use Rattle.codes.specs.declared.request_type.RequestType.{RequestType}
 use Rattle.codes.specs.declared.request_type.RequestType.the-variants.{ClockValue, TimeEvent, SdaLow, SdnLow, SdaHigh, SdnHigh, MulticastSrd, FdlStatus, SrdLow, SrdHigh, Ident, LsapStatus}
 use Rattle.codes.specs.declared.request_type.RequestTypeFound.the-variants as requestFound
@@ -25,15 +23,27 @@ use Rattle.codes.specs.declared.response.ResponseStatus.{ResponseStatus}
 use Rattle.codes.specs.declared.response.ResponseStatus.the-variants.{Ok, UserError, NoResources, SapNotEnabled, DataLow, NoDataReady, DataHigh, NotReceivedDataLow, NotReceivedDataHigh}
 use Rattle.codes.specs.declared.response.ResponseStatusFound.the-variants as statusFound
 
--- What a number leads back to, no other value has.
-pub injective : {A B : Type 0} (number : A → B) (back : B → A) → ((x : A) → back (number x) ≡ x) → (x y : A) → number x ≡ number y → x ≡ y
-injective number back again x y e = sym (again x) ∙ ap back e ∙ again y
+-- ---- the frame count bit
 
 pub frame-count-part-small : (b : FrameCountBit) → frameCountPart b ≤ 48
 frame-count-part-small First = lit≤ tt
 frame-count-part-small High = lit≤ tt
 frame-count-part-small Low = lit≤ tt
 frame-count-part-small Inactive = lit≤ tt
+
+-- A cycled bit, or its refusal, is the one that what is shown leads back to.
+abbrev cycledBack : OrRefused FrameCountBit → Cycled
+cycledBack (gives bit) = cycled.Next bit
+cycledBack (refused n) = cycled.Refused (refusalOf n)
+
+cycled-again : (x : Cycled) → cycledBack (shownCycled x) ≡ x
+cycled-again (cycled.Next bit) = refl
+cycled-again (cycled.Refused r) = ap cycled.Refused (refusal-again r)
+
+pub cycled-injective : (x y : Cycled) → shownCycled x ≡ shownCycled y → x ≡ y
+cycled-injective = injective shownCycled cycledBack cycled-again
+
+-- ---- the request types
 
 pub request-number-small : (x : RequestType) → requestNumber x ≤ 128
 request-number-small ClockValue = lit≤ tt
@@ -66,7 +76,10 @@ request-type-again Ident = refl
 request-type-again LsapStatus = refl
 
 pub request-number-injective : (x y : RequestType) → requestNumber x ≡ requestNumber y → x ≡ y
-request-number-injective x y e = let h : requestFound.Is x ≡ requestFound.Is y = sym (request-type-again x) ∙ ap requestTypeOf e ∙ request-type-again y in cc
+request-number-injective x y e =
+    let h : requestFound.Is x ≡ requestFound.Is y = led-back requestNumber requestFound.Is requestTypeOf request-type-again x y e in cc
+
+-- ---- a response's state
 
 pub state-number-small : (x : ResponseState) → stateNumber x ≤ 3
 state-number-small Slave = lit≤ tt
@@ -83,7 +96,10 @@ state-again MasterWithoutToken = refl
 state-again MasterInRing = refl
 
 pub state-number-injective : (x y : ResponseState) → stateNumber x ≡ stateNumber y → x ≡ y
-state-number-injective x y e = let h : stateFound.Is x ≡ stateFound.Is y = sym (state-again x) ∙ ap stateOf e ∙ state-again y in cc
+state-number-injective x y e =
+    let h : stateFound.Is x ≡ stateFound.Is y = led-back stateNumber stateFound.Is stateOf state-again x y e in cc
+
+-- ---- a response's status
 
 pub status-number-small : (x : ResponseStatus) → statusNumber x ≤ 13
 status-number-small Ok = lit≤ tt
@@ -110,67 +126,5 @@ status-again NotReceivedDataLow = refl
 status-again NotReceivedDataHigh = refl
 
 pub status-number-injective : (x y : ResponseStatus) → statusNumber x ≡ statusNumber y → x ≡ y
-status-number-injective x y e = let h : statusFound.Is x ≡ statusFound.Is y = sym (status-again x) ∙ ap statusOf e ∙ status-again y in cc
-
--- All refusals, in the order of their numbers, and the answer that a number stands for: `Done` for 0.
-pub refusals : List Refusal
-refusals =
-    refusal.UnknownStart
-    ∷ refusal.LengthsDiffer
-    ∷ refusal.LengthTooSmall
-    ∷ refusal.FunctionCode
-    ∷ refusal.SapMissing
-    ∷ refusal.Checksum
-    ∷ refusal.EndDelimiter
-    ∷ refusal.AddressTooLarge
-    ∷ refusal.TooLong
-    ∷ refusal.NoRoom
-    ∷ refusal.NotAStation
-    ∷ refusal.BlockCutOff
-    ∷ refusal.BlockReserved
-    ∷ refusal.BlockLengthZero
-    ∷ refusal.CycleInactive
-    ∷ refusal.OrderLength
-    ∷ refusal.OrderPending
-    ∷ refusal.LinkAddresses
-    ∷ refusal.Tries
-    ∷ refusal.SettingsForm
-    ∷ refusal.NoReplyOwed
-    ∷ refusal.InputTooLong
-    ∷ []
-
-pub answerOf : ℕ → Answer
-answerOf = lookup numberOf Refused Done refusals
-
--- An answer is the one that its number is looked up to, and so is a refusal.
-pub answer-again : (a : Answer) → answerOf (shown a) ≡ a
-unfolding answerOf refusals
-answer-again Done = refl
-answer-again (Refused refusal.UnknownStart) = refl
-answer-again (Refused refusal.LengthsDiffer) = refl
-answer-again (Refused refusal.LengthTooSmall) = refl
-answer-again (Refused refusal.FunctionCode) = refl
-answer-again (Refused refusal.SapMissing) = refl
-answer-again (Refused refusal.Checksum) = refl
-answer-again (Refused refusal.EndDelimiter) = refl
-answer-again (Refused refusal.AddressTooLarge) = refl
-answer-again (Refused refusal.TooLong) = refl
-answer-again (Refused refusal.NoRoom) = refl
-answer-again (Refused refusal.NotAStation) = refl
-answer-again (Refused refusal.BlockCutOff) = refl
-answer-again (Refused refusal.BlockReserved) = refl
-answer-again (Refused refusal.BlockLengthZero) = refl
-answer-again (Refused refusal.CycleInactive) = refl
-answer-again (Refused refusal.OrderLength) = refl
-answer-again (Refused refusal.OrderPending) = refl
-answer-again (Refused refusal.LinkAddresses) = refl
-answer-again (Refused refusal.Tries) = refl
-answer-again (Refused refusal.SettingsForm) = refl
-answer-again (Refused refusal.NoReplyOwed) = refl
-answer-again (Refused refusal.InputTooLong) = refl
-
-pub shown-injective : (a b : Answer) → shown a ≡ shown b → a ≡ b
-shown-injective = injective shown answerOf answer-again
-
-pub number-injective : (x y : Refusal) → numberOf x ≡ numberOf y → x ≡ y
-number-injective x y e = let h : Refused x ≡ Refused y = shown-injective (Refused x) (Refused y) e in cc
+status-number-injective x y e =
+    let h : statusFound.Is x ≡ statusFound.Is y = led-back statusNumber statusFound.Is statusOf status-again x y e in cc

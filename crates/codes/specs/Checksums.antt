@@ -1,5 +1,4 @@
--- Document 01: "The checksum is the sum modulo 256".
--- Assumes nothing.
+-- Document 01: "The checksum is the sum modulo 256": `checksumOf`.
 use Prim.Native.Nat.{ℕ, _+_, _%_}
 use mathlib.Core.List.{List, [], _∷_}
 

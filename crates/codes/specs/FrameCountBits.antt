@@ -1,7 +1,6 @@
--- Document 01, "Function code": the frame count bit.
--- Assumes nothing.
+-- Document 01, "Function code": the frame count bit, `frameCountBitOf`, and its cycle, `cycleOf`.
 use mathlib.Core.Bool.{Bool, true, false}
-use Rattle.codes.specs.Refusals.{Outcome, gives, refused, numberOf}
+use Rattle.ground.specs.Refusals.{OrRefused, gives, refused, numberOf}
 use Rattle.codes.specs.declared.frame_count_bit.Cycled.{Cycled}
 use Rattle.codes.specs.declared.frame_count_bit.Cycled.the-variants.{Next, Refused}
 use Rattle.codes.specs.declared.frame_count_bit.FrameCountBit.{FrameCountBit}
@@ -28,13 +27,13 @@ fcbOf High = true
 fcbOf Low = false
 
 -- "Cycle: First to Low, High to Low, Low to High, Inactive refused" (15)
-abbrev pub cycleOf : FrameCountBit → Outcome FrameCountBit
+abbrev pub cycleOf : FrameCountBit → OrRefused FrameCountBit
 cycleOf First = gives Low
 cycleOf High = gives Low
 cycleOf Low = gives High
 cycleOf Inactive = refused 15
 
 -- what `cycle` answers, with document 01's number
-abbrev pub shownCycled : Cycled → Outcome FrameCountBit
+abbrev pub shownCycled : Cycled → OrRefused FrameCountBit
 shownCycled (Next bit) = gives bit
 shownCycled (Refused refusal) = refused (numberOf refusal)

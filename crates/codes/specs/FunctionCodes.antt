@@ -1,10 +1,10 @@
--- Document 01, "Function code": the function code's byte, read and written.
--- Assumes nothing.
+-- Document 01, "Function code": the function code's byte, read (`functionCodeOf`) and written (`codeByte`), and which bytes a code has
+-- (`CodeRead`).
 use Prim.Native.Nat.{ℕ, zero, suc, _+_, _*_, _/_, _%_, _^_}
 use mathlib.Core.Bool.{Bool, true, false}
-use lib.Dec.{eqb}
+use Rattle.ground.specs.Bits.{bit, digit}
 use Rattle.codes.specs.FrameCountBits.{frameCountBitOf, fcvOf, fcbOf}
-use Rattle.codes.specs.Pick.{if}
+use Rattle.ground.specs.Pick.{if}
 use Rattle.codes.specs.RequestTypes.{requestNumber, requestTypeOf}
 use Rattle.codes.specs.Responses.{stateNumber, stateOf, statusNumber, statusOf}
 use Rattle.codes.specs.declared.frame_count_bit.FrameCountBit.{FrameCountBit}
@@ -14,14 +14,16 @@ use Rattle.codes.specs.declared.function_code.FunctionCodeFound.{Functio
 use Rattle.codes.specs.declared.function_code.FunctionCodeFound.the-variants.{Is, Nothing}
 use Rattle.codes.specs.declared.request_type.RequestTypeFound.{RequestTypeFound}
 use Rattle.codes.specs.declared.request_type.RequestTypeFound.the-variants as requestFound
+use Rattle.codes.specs.declared.response.ResponseState.{ResponseState}
 use Rattle.codes.specs.declared.response.ResponseStateFound.{ResponseStateFound}
 use Rattle.codes.specs.declared.response.ResponseStateFound.the-variants as stateFound
+use Rattle.codes.specs.declared.response.ResponseStatus.{ResponseStatus}
 use Rattle.codes.specs.declared.response.ResponseStatusFound.{ResponseStatusFound}
 use Rattle.codes.specs.declared.response.ResponseStatusFound.the-variants as statusFound
 
--- whether a bit of a byte is set, counted from 0
-abbrev pub bit : ℕ → ℕ → Bool
-bit n b = eqb (b / 2 ^ n % 2) 1
+-- the code of a response with this state and status: what every definition names that makes one
+abbrev pub responseCode : ResponseState → ResponseStatus → FunctionCode
+responseCode state status = Response state status
 
 -- "The byte and 8F": bit 7 and the low four bits
 abbrev pub requestBits : ℕ → ℕ
@@ -46,11 +48,6 @@ functionCodeOf b =
     (requestOf (frameCountBitOf (bit 4 b) (bit 5 b)) (requestTypeOf (requestBits b)))
     (responseOf (stateOf (b / 16 % 4)) (statusOf (b % 16)))
 
--- 1 for a bit that is set
-abbrev pub digit : Bool → ℕ
-digit true = 1
-digit false = 0
-
 -- FCB at bit 5, FCV at bit 4
 abbrev pub frameCountPart : FrameCountBit → ℕ
 frameCountPart fcb = digit (fcbOf fcb) * 2 ^ 5 + digit (fcvOf fcb) * 2 ^ 4
@@ -59,6 +56,11 @@ frameCountPart fcb = digit (fcbOf fcb) * 2 ^ 5 + digit (fcvOf fcb) * 2 ^ 4
 unfoldable pub codeByte : FunctionCode → ℕ
 codeByte (Request fcb req) = 2 ^ 6 + frameCountPart fcb + requestNumber req
 codeByte (Response state status) = stateNumber state * 2 ^ 4 + statusNumber status
+
+-- the bytes of a function code: "bit 7 is ignored", so a response's byte has bit 7 clear or set; a request's byte is one
+pub data CodeRead : FunctionCode → ℕ → Type 0 where
+  asWritten : {fc : FunctionCode} → CodeRead fc (codeByte fc)
+  bit7Set : {state : ResponseState} {status : ResponseStatus} → CodeRead (Response state status) (codeByte (Response state status) + 128)
 
 -- "Writing gives the same byte back, except that a response loses bit 7": the byte that writing gives for what was read
 abbrev pub keptByte : ℕ → ℕ

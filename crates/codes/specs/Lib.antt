@@ -1,9 +1,10 @@
+-- Read `FunctionCodes`; what stands before it names its parts.
+-- the bytes that start and end a telegram, and its checksum
+pub mod Delimiters
 pub mod Checksums
+-- the frame count bit, the request types, a response's state and status, with their numbers
 pub mod FrameCountBits
-pub mod FunctionCodes
-pub mod Lookup
-pub mod Part
-pub mod Pick
-pub mod Refusals
 pub mod RequestTypes
 pub mod Responses
+-- the function code's byte, read and written
+pub mod FunctionCodes

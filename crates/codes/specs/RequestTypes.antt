@@ -1,9 +1,8 @@
--- Document 01, "Function code": the request types and their numbers.
--- Assumes nothing.
+-- Document 01, "Function code": the request types and their numbers, `requestNumber`, and which expect a reply.
 use Prim.Native.Nat.{ℕ}
 use mathlib.Core.Bool.{Bool, true, false}
 use mathlib.Core.List.{List, [], _∷_}
-use Rattle.codes.specs.Lookup.{lookup}
+use Rattle.ground.specs.Lookup.{lookup}
 use Rattle.codes.specs.declared.request_type.RequestType.{RequestType}
 use Rattle.codes.specs.declared.request_type.RequestType.the-variants.{ClockValue, TimeEvent, SdaLow, SdnLow, SdaHigh, SdnHigh, MulticastSrd, FdlStatus, SrdLow, SrdHigh, Ident, LsapStatus}
 use Rattle.codes.specs.declared.request_type.RequestTypeFound.{RequestTypeFound}

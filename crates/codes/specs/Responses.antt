@@ -1,8 +1,7 @@
--- Document 01, "Function code": a response's state and status, and their numbers.
--- Assumes nothing.
+-- Document 01, "Function code": a response's state and status, and their numbers, `stateNumber` and `statusNumber`.
 use Prim.Native.Nat.{ℕ}
 use mathlib.Core.List.{List, [], _∷_}
-use Rattle.codes.specs.Lookup.{lookup}
+use Rattle.ground.specs.Lookup.{lookup}
 use Rattle.codes.specs.declared.response.ResponseState.{ResponseState}
 use Rattle.codes.specs.declared.response.ResponseState.the-variants.{Slave, MasterNotReady, MasterWithoutToken, MasterInRing}
 use Rattle.codes.specs.declared.response.ResponseStateFound.{ResponseStateFound}

@@ -1,4 +1,4 @@
-// PROFIBUS constants, as in profirust's consts.rs.
+// PROFIBUS constants, as in profirust's consts.rs. The definitions name them in specs/Delimiters.antt.
 
 // Start delimiter 1: no content.
 pub const SD1: u8 = 0x10;

@@ -1,3 +1,4 @@
+// The checksum of a telegram. Promise: `checksumOf` in specs/Checksums.antt.
 ghost use mathlib.Core.Path.{_≡_};
 ghost use Rattle.codes.specs.Checksums.{checksumOf};
 use std::num::wrapping_add_u8;

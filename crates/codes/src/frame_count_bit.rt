@@ -1,6 +1,7 @@
+// The frame count bit. Promise: `cycleOf`, `fcbOf`, `fcvOf` and `frameCountBitOf` in specs/FrameCountBits.antt.
 ghost use mathlib.Core.Path.{_≡_};
 ghost use Rattle.codes.specs.FrameCountBits.{shownCycled, cycleOf, fcbOf, fcvOf, frameCountBitOf};
-use crate::refusal::Refusal;
+use ground::Refusal;
 
 // Frame Count Bit: it detects lost messages and prevents duplication on either side.
 pub enum FrameCountBit {

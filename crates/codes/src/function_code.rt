@@ -1,5 +1,6 @@
+// The function code, to and from its byte. Promise: `codeByte`, `functionCodeOf` and `responseCode` in specs/FunctionCodes.antt.
 ghost use mathlib.Core.Path.{_≡_};
-ghost use Rattle.codes.specs.FunctionCodes.{codeByte, functionCodeOf, frameCountPart};
+ghost use Rattle.codes.specs.FunctionCodes.{codeByte, functionCodeOf, frameCountPart, responseCode};
 use crate::frame_count_bit::FrameCountBit;
 use crate::request_type::RequestType;
 use crate::request_type::RequestTypeFound;
@@ -84,5 +85,11 @@ impl FunctionCode {
             fcb,
             req: RequestType::SrdHigh,
         }
+    }
+    // The code of a response. Whoever makes one calls this.
+    pub fn new_response(state: ResponseState, status: ResponseStatus) -> FunctionCode
+        ensures { λ r. ⌜ r ≡ responseCode state status ⌝ }
+    {
+        FunctionCode::Response { state, status }
     }
 }

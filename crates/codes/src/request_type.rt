@@ -1,3 +1,4 @@
+// The request types and their numbers. Promise: `requestTypeOf`, `requestNumber` and `expectsReply` in specs/RequestTypes.antt.
 ghost use mathlib.Core.Path.{_≡_};
 ghost use Rattle.codes.specs.RequestTypes.{requestNumber, requestTypeOf, expectsReply};
 

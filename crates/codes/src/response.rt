@@ -1,3 +1,4 @@
+// A response's state and status, and their numbers. Promise: `stateOf`, `stateNumber`, `statusOf` and `statusNumber` in specs/Responses.antt.
 ghost use mathlib.Core.Path.{_≡_};
 ghost use Rattle.codes.specs.Responses.{stateNumber, stateOf, statusNumber, statusOf};
 

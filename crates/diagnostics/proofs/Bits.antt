@@ -1,5 +1,4 @@
 -- Laws of an identifier block's bits and of the search for the first that is set.
--- Assumes nothing.
 use mathlib.Core.Path.{_≡_}
 use mathlib.Core.Bool.{true, false}
 use mathlib.Core.List.{List}
@@ -23,7 +22,8 @@ one-more end at h = omega arith
 pub first-here : (body : List ℕ) (end at : ℕ) → at < end → bitOf body at ≡ true → firstOfNext body (end - at) at ≡ some at
 first-here body end at h set = rw (one-more end at h, set)
 
-pub first-later : (body : List ℕ) (end at : ℕ) → at < end → bitOf body at ≡ false → firstOfNext body (end - at) at ≡ firstOfNext body (end - (at + 1)) (at + 1)
+pub first-later : (body : List ℕ) (end at : ℕ) → at < end → bitOf body at ≡ false
+    → firstOfNext body (end - at) at ≡ firstOfNext body (end - (at + 1)) (at + 1)
 first-later body end at h clear = rw (one-more end at h, clear, add-one)
 
 pub first-none : (body : List ℕ) (end at : ℕ) → end ≤ at → firstOfNext body (end - at) at ≡ none

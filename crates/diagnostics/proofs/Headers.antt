@@ -1,12 +1,11 @@
 -- A step at a header, by its kind: what the definition comes to where the kind is known.
--- Assumes nothing.
 use mathlib.Core.Path.{_≡_}
 use mathlib.Core.List.{List}
 use Prim.Native.Nat.{ℕ, _+_, _-_, _/_, _%_, _≤_, _<_}
 use native.Mathlib.Omega.{arith}
 use borrow.Author.Tests.{eq-eqb, ne-eqb, le-ltb, lt-ltb}
 use lib.ListN.{length}
-use Rattle.codes.specs.Part.{byteAt}
+use Rattle.ground.specs.Part.{byteAt}
 use Rattle.diagnostics.specs.Channel.{channelOf}
 use Rattle.diagnostics.specs.Walk.{block, blockAt, channelIs, deviceAt, headedBy, identifierAt, lengthOf, refusedAt}
 
@@ -48,7 +47,8 @@ module _ (s : List ℕ) (at header : ℕ) where
       unfolding headedBy
       headed-cut cut = rw (ne-eqb _ _ kind, ne-eqb _ _ some, lt-ltb _ _ cut)
 
-      pub headed-block : at + lengthOf header ≤ length s → headedBy s at header ≡ record { answer = block (blockAt s at header); cursor = at + lengthOf header }
+      pub headed-block : at + lengthOf header ≤ length s
+          → headedBy s at header ≡ record { answer = block (blockAt s at header); cursor = at + lengthOf header }
       unfolding headedBy
       headed-block fits = rw (ne-eqb _ _ kind, ne-eqb _ _ some, le-ltb _ _ fits)
 
@@ -63,7 +63,8 @@ module _ (s : List ℕ) (at header : ℕ) where
     pub sized-cut : (header % 64 ≡ 0 → ⊥) → length s < at + header % 64 → headedBy s at header ≡ refusedAt 12 (length s)
     sized-cut some cut = headed-cut (λ e. omega arith) (rw sized some) (rw sized cut)
 
-    pub sized-whole : (header % 64 ≡ 0 → ⊥) → at + header % 64 ≤ length s → headedBy s at header ≡ record { answer = block (blockAt s at header); cursor = at + header % 64 }
+    pub sized-whole : (header % 64 ≡ 0 → ⊥) → at + header % 64 ≤ length s
+        → headedBy s at header ≡ record { answer = block (blockAt s at header); cursor = at + header % 64 }
     sized-whole some fits = rw sized at (headed-block (λ e. omega arith) (rw sized some) (rw sized fits))
 
   -- a channel block: three bytes
@@ -74,5 +75,6 @@ module _ (s : List ℕ) (at header : ℕ) where
     pub channel-cut : length s < at + 3 → headedBy s at header ≡ refusedAt 12 (length s)
     channel-cut cut = headed-cut (λ e. omega arith) (λ e. omega (arith, three)) (rw three cut)
 
-    pub channel-whole : at + 3 ≤ length s → headedBy s at header ≡ record { answer = block (channelIs (channelOf header (byteAt s (at + 1)) (byteAt s (at + 2)))); cursor = at + 3 }
+    pub channel-whole : at + 3 ≤ length s
+        → headedBy s at header ≡ record { answer = block (channelIs (channelOf header (byteAt s (at + 1)) (byteAt s (at + 2)))); cursor = at + 3 }
     channel-whole fits = rw (three, block-channel kind) at (headed-block (λ e. omega arith) (λ e. omega (arith, three)) (rw three fits))

@@ -1,11 +1,10 @@
 -- The numbers of types and errors are those of the byte; and laws for the arms of a `match` that name no single number.
--- Assumes nothing.
 use mathlib.Core.Path.{_≡_, refl}
 use Prim.Native.Nat.{ℕ, suc, _%_, _≤_, _<_}
 use native.Mathlib.Decide.{decLe, decLt}
 use native.Mathlib.Omega.{arith}
 use borrow.Author.Tests.{eq-eqb, ne-eqb, le-leb, lt-leb}
-use Rattle.diagnostics.specs.Channel.{errorOf, named, numberOf, reserved, typeOf, vendor}
+use Rattle.diagnostics.specs.Channel.{errorOf, named, errorNumber, reserved, typeOf, vendor}
 
 type-invalid-by : (n : ℕ) → Dec (0 < n) → (0 < n → n ≡ 7) → 7 ≡ typeOf n
 unfolding typeOf
@@ -29,7 +28,9 @@ past : (k : ℕ) {n : ℕ} → k < n → (n ≡ suc k → ⊥) → suc k < n
 past k p h = omega arith
 
 -- what is none of 1 to 9 lies above them, or is 0
-above-nine : {n : ℕ} → 0 < n → (n ≡ 1 → ⊥) → (n ≡ 2 → ⊥) → (n ≡ 3 → ⊥) → (n ≡ 4 → ⊥) → (n ≡ 5 → ⊥) → (n ≡ 6 → ⊥) → (n ≡ 7 → ⊥) → (n ≡ 8 → ⊥) → (n ≡ 9 → ⊥) → 9 < n
+above-nine : {n : ℕ} → 0 < n → (n ≡ 1 → ⊥) → (n ≡ 2 → ⊥) → (n ≡ 3 → ⊥) → (n ≡ 4 → ⊥) → (n ≡ 5 → ⊥) → (n ≡ 6 → ⊥) → (n ≡ 7 → ⊥)
+    → (n ≡ 8 → ⊥) → (n ≡ 9 → ⊥)
+    → 9 < n
 above-nine p h₁ h₂ h₃ h₄ h₅ h₆ h₇ h₈ h₉ = past 8 (past 7 (past 6 (past 5 (past 4 (past 3 (past 2 (past 1 (past 0 p h₁) h₂) h₃) h₄) h₅) h₆) h₇) h₈) h₉
 
 error-reserved-by : (n : ℕ) → n < 16 → Dec (0 < n) → (0 < n → 9 < n) → reserved n ≡ errorOf n
@@ -38,7 +39,9 @@ error-reserved-by n h (yes p) g = rw (lt-leb 16 n h, ne-eqb n 0 (λ e. omega ari
 error-reserved-by n h (no z) g = rw (lt-leb 16 n h, eq-eqb n 0 (omega arith))
 
 -- below 16, what is none of 1 to 9 is reserved
-pub error-reserved : (n : ℕ) → n < 16 → (n ≡ 1 → ⊥) → (n ≡ 2 → ⊥) → (n ≡ 3 → ⊥) → (n ≡ 4 → ⊥) → (n ≡ 5 → ⊥) → (n ≡ 6 → ⊥) → (n ≡ 7 → ⊥) → (n ≡ 8 → ⊥) → (n ≡ 9 → ⊥) → reserved n ≡ errorOf n
+pub error-reserved : (n : ℕ) → n < 16 → (n ≡ 1 → ⊥) → (n ≡ 2 → ⊥) → (n ≡ 3 → ⊥) → (n ≡ 4 → ⊥) → (n ≡ 5 → ⊥) → (n ≡ 6 → ⊥) → (n ≡ 7 → ⊥)
+    → (n ≡ 8 → ⊥) → (n ≡ 9 → ⊥)
+    → reserved n ≡ errorOf n
 error-reserved n h h₁ h₂ h₃ h₄ h₅ h₆ h₇ h₈ h₉ = error-reserved-by n h (decLt 0 n) (λ p. above-nine p h₁ h₂ h₃ h₄ h₅ h₆ h₇ h₈ h₉)
 
 -- a type is its number, but that 0 is 7
@@ -70,11 +73,11 @@ sort-by n (no v) (yes p) (no q) =
 pub sort : (n : ℕ) → Sort n
 sort n = sort-by n (decLe _ _) (decLe _ _) (decLe _ _)
 
-number-by : {n : ℕ} → Sort n → numberOf (errorOf n) ≡ n
+number-by : {n : ℕ} → Sort n → errorNumber (errorOf n) ≡ n
 number-by (isNamed _ _ e) = rw e
 number-by (isReserved _ _ e) = rw e
 number-by (isVendor _ e) = rw e
 
 -- an error's number is the byte's, whatever its sort
-pub error-number : (n : ℕ) → numberOf (errorOf n) ≡ n
+pub error-number : (n : ℕ) → errorNumber (errorOf n) ≡ n
 error-number n = number-by (sort n)

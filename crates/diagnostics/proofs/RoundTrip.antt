@@ -1,5 +1,5 @@
--- The walk of bytes that say a row of blocks gives that row and then the end; so does the walk of a row's own bytes.
--- Assumes nothing.
+-- The walk of bytes that say a row of blocks gives that row and then the end (`row-walked`); so does the walk of a row's own bytes
+-- (`round-trip`).
 use mathlib.Core.Path.{_≡_, refl, ap, _∙_}
 use mathlib.Core.Bool.{Bool, true, false}
 use mathlib.Core.List.{List, [], _∷_, _++_, append-assoc, append-nil}
@@ -8,23 +8,16 @@ use native.Mathlib.Omega.{arith}
 use lib.Dec.{eqb}
 use lib.ListN.{length, length-append}
 use lib.Seq.{drop-append-add, getD-append-add, getD-append-seam, take-append-seam}
-use Rattle.codes.proofs.PartLaws.{shown-fits}
-use Rattle.codes.specs.FunctionCodes.{digit}
+use Rattle.ground.proofs.BitLaws.{digit-small, digit-back}
+use Rattle.ground.proofs.PartLaws.{shown-fits}
+use Rattle.ground.specs.Bits.{digit}
 use Rattle.diagnostics.specs.Blocks.{AllFitting, Block, ChannelFits, Fitting, RowSays, Says, channel, channelFits, device, deviceFits, firstByte, identifier, identifierFits, itsOwn, noneLeft, oneMore, rowBytes, rowEnd, rowMore, secondByte, thirdByte, typeZero}
-use Rattle.diagnostics.specs.Channel.{Channel, channelOf, numberOf, typeOf}
-use Rattle.diagnostics.specs.Walk.{Placed, block, blockAt, bodyOf, channelIs, deviceAt, identifierAt, lengthOf, pictured, stepOf, walkOf, walkSteps, whole}
+use Rattle.diagnostics.specs.Channel.{Channel, channelOf, errorNumber, typeOf}
+use Rattle.diagnostics.specs.Walk.{PlacedBlock, block, blockAt, bodyOf, channelIs, deviceAt, identifierAt, lengthOf, pictured, stepOf, walkOf, walkSteps, whole}
 use Rattle.diagnostics.proofs.Headers.{length-channel, length-sized}
 use Rattle.diagnostics.proofs.Numbers.{type-kept, type-zero}
 use Rattle.diagnostics.proofs.Steps.{step-block, step-stays}
 use Rattle.diagnostics.proofs.Walks.{walk-off, walk-on}
-
-digit-small : (b : Bool) → digit b ≤ 1
-digit-small true = omega arith
-digit-small false = omega arith
-
-digit-back : (b : Bool) → eqb (digit b) 1 ≡ b
-digit-back true = refl
-digit-back false = refl
 
 -- the second byte gives the channel, the input and the output back
 channel-number : (o i n : ℕ) → n < 64 → (128 * o + 64 * i + n) % 64 ≡ n
@@ -49,7 +42,8 @@ header-back : (m : ℕ) → m < 64 → (128 + m) % 64 ≡ m
 header-back m h = omega arith
 
 -- the three bytes of a channel say that channel
-channel-said : (c : Channel) → ChannelFits c → (third : ℕ) → typeOf (third / 32) ≡ c .dtype → third % 32 ≡ numberOf (c .error) → channelOf (firstByte c) (secondByte c) third ≡ c
+channel-said : (c : Channel) → ChannelFits c → (third : ℕ) → typeOf (third / 32) ≡ c .dtype → third % 32 ≡ errorNumber (c .error)
+    → channelOf (firstByte c) (secondByte c) third ≡ c
 channel-said c f third type error =
     let small = digit-small (c .input) in
     rw (
@@ -67,9 +61,9 @@ channel-said c f third type error =
 own-type : (c : Channel) → ChannelFits c → typeOf (thirdByte c / 32) ≡ c .dtype
 own-type c f = rw (third-type _ _ (f .errorBits)) (type-kept _ (f .typeLeast))
 
-zero-type : (c : Channel) → ChannelFits c → c .dtype ≡ 7 → typeOf (numberOf (c .error) / 32) ≡ c .dtype
+zero-type : (c : Channel) → ChannelFits c → c .dtype ≡ 7 → typeOf (errorNumber (c .error) / 32) ≡ c .dtype
 zero-type c f seven =
-    let none : numberOf (c .error) / 32 ≡ 0 = omega arith in
+    let none : errorNumber (c .error) / 32 ≡ 0 = omega arith in
     rw (none, seven) type-zero
 
 module _ (pre rest : List ℕ) where
@@ -81,7 +75,8 @@ module _ (pre rest : List ℕ) where
       rw (shown-fits _ _ fits, drop-append-add, size, take-append-seam)
 
   -- a step at a block with a body finds it and goes on behind it
-  step-sized : (header : ℕ) (body : List ℕ) → header % 64 ≡ suc (length body) → header / 64 < 2 → stepOf (pre ++ (header ∷ (body ++ rest))) (length pre) ≡ record { answer = block (blockAt (pre ++ (header ∷ (body ++ rest))) (length pre) header); cursor = length pre + suc (length body) }
+  step-sized : (header : ℕ) (body : List ℕ) → header % 64 ≡ suc (length body) → header / 64 < 2
+      → stepOf (pre ++ (header ∷ (body ++ rest))) (length pre) ≡ record { answer = block (blockAt (pre ++ (header ∷ (body ++ rest))) (length pre) header); cursor = length pre + suc (length body) }
   step-sized header body low kind =
       let len : lengthOf header ≡ suc (length body) = length-sized header (λ e. omega arith) ∙ low in
       let inside : length pre < length (pre ++ (header ∷ (body ++ rest))) = simp length-append (omega arith) in
@@ -89,7 +84,8 @@ module _ (pre rest : List ℕ) where
       rw (step-block _ _ header inside (getD-append-seam pre header _ 0) (λ e. omega arith) (omega arith) fits, len)
 
   -- so does one at a channel block
-  step-channel : (header second third : ℕ) → header / 64 ≡ 2 → stepOf (pre ++ (header ∷ second ∷ third ∷ rest)) (length pre) ≡ record { answer = block (channelIs (channelOf header second third)); cursor = length pre + 3 }
+  step-channel : (header second third : ℕ) → header / 64 ≡ 2
+      → stepOf (pre ++ (header ∷ second ∷ third ∷ rest)) (length pre) ≡ record { answer = block (channelIs (channelOf header second third)); cursor = length pre + 3 }
   unfolding blockAt
   step-channel header second third two =
       let len : lengthOf header ≡ 3 = length-channel header two in
@@ -105,11 +101,13 @@ module _ (pre rest : List ℕ) where
 
 -- a step at a place of s gives this block and goes on so many bytes further
 record Gives (s : List ℕ) (at : ℕ) (b : Block) (size : ℕ) : Type 0 where
-  placed : Placed
+  placed : PlacedBlock
   steps : stepOf s at ≡ record { answer = block placed; cursor = at + size }
   shows : pictured s placed ≡ b
 
-channel-gives : (pre rest : List ℕ) (c : Channel) → ChannelFits c → (third : ℕ) → typeOf (third / 32) ≡ c .dtype → third % 32 ≡ numberOf (c .error) → Gives (pre ++ (firstByte c ∷ secondByte c ∷ third ∷ rest)) (length pre) (channel c) 3
+channel-gives : (pre rest : List ℕ) (c : Channel) → ChannelFits c → (third : ℕ) → typeOf (third / 32) ≡ c .dtype
+    → third % 32 ≡ errorNumber (c .error)
+    → Gives (pre ++ (firstByte c ∷ secondByte c ∷ third ∷ rest)) (length pre) (channel c) 3
 channel-gives pre rest c fits third type error =
     let two : firstByte c / 64 ≡ 2 = omega arith in
     record {
@@ -142,7 +140,7 @@ gives pre rest itsOwn (deviceFits {body} short) =
     }
 gives pre rest itsOwn (channelFits {c} fits) = channel-gives pre rest c fits (thirdByte c) (own-type c fits) (third-error (c .dtype) _ (fits .errorBits))
 gives pre rest (typeZero {c} seven) (channelFits fits) =
-    channel-gives pre rest c fits (numberOf (c .error)) (zero-type c fits seven) (below-itself _ (fits .errorBits))
+    channel-gives pre rest c fits (errorNumber (c .error)) (zero-type c fits seven) (below-itself _ (fits .errorBits))
 
 -- a block is at least one byte
 some-bytes : {x : List ℕ} {b : Block} → Says x b → 1 ≤ length x
@@ -157,7 +155,8 @@ some-row rowEnd = omega arith
 some-row (rowMore says _ more) = simp length-append (omega (arith, some-bytes says, some-row more))
 
 -- the walk of a row that stands behind other bytes, in steps enough
-walk-row : {s : List ℕ} {bs : List Block} → RowSays s bs → (k : ℕ) (pre : List ℕ) → length bs ≤ k → walkSteps (suc k) (pre ++ s) (length pre) ≡ record { blocks = bs; ending = whole }
+walk-row : {s : List ℕ} {bs : List Block} → RowSays s bs → (k : ℕ) (pre : List ℕ) → length bs ≤ k
+    → walkSteps (suc k) (pre ++ s) (length pre) ≡ record { blocks = bs; ending = whole }
 walk-row rowEnd k pre h = walk-off k _ _ (step-stays _ _ (simp append-nil (omega arith)))
 walk-row (rowMore says fits more) zero pre h = absurd (omega arith)
 walk-row (rowMore {x} {xs} says fits more) (suc k) pre h =

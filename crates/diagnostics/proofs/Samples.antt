@@ -1,9 +1,8 @@
 -- What is answered to bad input of each kind, computed on the definitions.
--- Assumes nothing.
 use mathlib.Core.Path.{_≡_, refl}
 use mathlib.Core.Bool.{true, false}
 use mathlib.Core.List.{[], _∷_}
-use Rattle.codes.specs.Part.{shownPart}
+use Rattle.ground.specs.Part.{shownPart}
 use Rattle.diagnostics.specs.Modules.{bitOf}
 use Rattle.diagnostics.specs.Store.{fillOf, walkedOf}
 use Rattle.diagnostics.specs.Walk.{atEnd, block, blockAt, bodyOf, deviceAt, headedBy, lengthOf, refusedAt, stepOf}

@@ -1,5 +1,5 @@
--- The first module set is what its name says, and asking one after the other gives all that are set.
--- Assumes nothing.
+-- The first module set is what its name says (`first-module`, `no-module`), and asking one after the other gives all that are set
+-- (`one-after-the-other`).
 use mathlib.Core.Path.{_≡_, refl}
 use mathlib.Core.Bool.{Bool, true, false}
 use mathlib.Core.List.{List, _∷_}
@@ -11,7 +11,7 @@ use native.Mathlib.Omega.{arith}
 use borrow.Author.Tests.{lt-leb}
 use lib.Dec.{leb}
 use lib.ListN.{length}
-use Rattle.codes.specs.Pick.{if}
+use Rattle.ground.specs.Pick.{if}
 use Rattle.diagnostics.specs.Meaning.{FirstSet, asked, setFrom, setOfNext}
 use Rattle.diagnostics.specs.Modules.{bitOf, firstOf, firstOfNext, modulesOf}
 use Rattle.diagnostics.proofs.Bits.{bit-past}
@@ -19,11 +19,14 @@ use Rattle.diagnostics.proofs.Steps.{clash}
 
 -- what an answer of the search says of the k modules from a number
 data Searched (body : List ℕ) (k from : ℕ) : Option ℕ → Type 0 where
-  first : (m : ℕ) → from ≤ m → m < from + k → bitOf body m ≡ true → ((j : ℕ) → from ≤ j → j < m → bitOf body j ≡ false) → Searched body k from (some m)
+  first : (m : ℕ) → from ≤ m → m < from + k → bitOf body m ≡ true → ((j : ℕ) → from ≤ j → j < m → bitOf body j ≡ false)
+      → Searched body k from (some m)
   without : ((j : ℕ) → from ≤ j → j < from + k → bitOf body j ≡ false) → Searched body k from none
 
 module _ (body : List ℕ) where
-  clear-from : (from : ℕ) (P : ℕ → Type 0) → bitOf body from ≡ false → ((j : ℕ) → suc from ≤ j → P j → bitOf body j ≡ false) → (j : ℕ) → from ≤ j → P j → bitOf body j ≡ false
+  clear-from : (from : ℕ) (P : ℕ → Type 0) → bitOf body from ≡ false → ((j : ℕ) → suc from ≤ j → P j → bitOf body j ≡ false) → (j : ℕ)
+      → from ≤ j → P j
+      → bitOf body j ≡ false
   clear-from from P here later j h p = by (ℕ-discrete j from)
     where
       by : Dec (j ≡ from) → bitOf body j ≡ false
@@ -34,7 +37,8 @@ module _ (body : List ℕ) where
   one-on k from here (first m low high set clear) = first m (omega arith) (omega arith) set (clear-from from (λ (j : ℕ). j < m) here clear)
   one-on k from here (without clear) = without (λ j h p. clear-from from (λ (i : ℕ). i < suc from + k) here clear j h (omega arith))
 
-  by-bit : (k from : ℕ) (b : Bool) → bitOf body from ≡ b → Searched body k (suc from) (firstOfNext body k (suc from)) → Searched body (suc k) from (if b (some from) (firstOfNext body k (suc from)))
+  by-bit : (k from : ℕ) (b : Bool) → bitOf body from ≡ b → Searched body k (suc from) (firstOfNext body k (suc from))
+      → Searched body (suc k) from (if b (some from) (firstOfNext body k (suc from)))
   by-bit k from true set rest = first from (omega arith) (omega arith) set (λ j h p. absurd (omega arith))
   by-bit k from false clear rest = one-on k from clear rest
 
@@ -54,7 +58,8 @@ pub first-module : (body : List ℕ) (from m : ℕ) → firstOf body from ≡ so
 unfolding firstOf
 first-module body from m e = first-by m (searched body (modulesOf body - from) from) e
 
-clear-by : {body : List ℕ} {k from : ℕ} {o : Option ℕ} → Searched body k from o → o ≡ none → (j : ℕ) → from ≤ j → j < from + k → bitOf body j ≡ false
+clear-by : {body : List ℕ} {k from : ℕ} {o : Option ℕ} → Searched body k from o → o ≡ none → (j : ℕ) → from ≤ j → j < from + k
+    → bitOf body j ≡ false
 clear-by (first m low high set clear) e j h p =
     clash (cc)
 clear-by (without clear) e j h p = clear j h p
@@ -79,7 +84,9 @@ no-module body short from e j h = by (decLt j (modulesOf body))
     by (yes inside) = clear-by (searched body (modulesOf body - from) from) e j h (omega arith)
     by (no past) = bit-past body j (omega (arith, modules-all body short))
 
-asked-by : (body : List ℕ) (k from : ℕ) (b : Bool) → modulesOf body - from ≡ suc k → setOfNext body k (suc from) ≡ asked body (firstOfNext body k (suc from)) → if b (from ∷ setOfNext body k (suc from)) (setOfNext body k (suc from)) ≡ asked body (if b (some from) (firstOfNext body k (suc from)))
+asked-by : (body : List ℕ) (k from : ℕ) (b : Bool) → modulesOf body - from ≡ suc k
+    → setOfNext body k (suc from) ≡ asked body (firstOfNext body k (suc from))
+    → if b (from ∷ setOfNext body k (suc from)) (setOfNext body k (suc from)) ≡ asked body (if b (some from) (firstOfNext body k (suc from)))
 unfolding setFrom
 asked-by body k from true left rest =
     let less : modulesOf body - (from + 1) ≡ k = omega arith in

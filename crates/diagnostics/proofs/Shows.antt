@@ -1,17 +1,17 @@
--- What the promises say of an answer determines it: each definition of specs/Shown.antt takes different values to
--- different ones, since another function takes each back.
--- Assumes nothing.
+-- What the promises say of an answer determines it: each definition of specs/Shown.antt takes different values to different ones, since another
+-- function takes each back. Read the laws that end in `-injective`.
 use mathlib.Core.Path.{_≡_, refl, ap}
 use mathlib.Core.List.{[], _∷_}
 use mathlib.Core.Option.{Option, none, some}
 use Prim.Native.Nat.{ℕ, _-_}
 use lib.ListN.{getD}
-use Rattle.codes.proofs.NumberLaws.{answer-again, answerOf, injective}
-use Rattle.codes.specs.declared.refusal.Answer.{Answer}
-use Rattle.codes.specs.declared.refusal.Answer.the-variants as answers
+use Rattle.ground.proofs.Injective.{injective}
+use Rattle.ground.proofs.RefusalLaws.{answer-again, answerOf}
+use Rattle.ground.specs.declared.refusal.Answer.{Answer}
+use Rattle.ground.specs.declared.refusal.Answer.the-variants as answers
 use Rattle.diagnostics.specs.Channel.{Channel, Error, named, reserved, vendor}
 use Rattle.diagnostics.specs.Shown.{shownBlock, shownChannel, shownError, shownFound, shownModule, shownStep, shownType}
-use Rattle.diagnostics.specs.Walk.{StepAnswer, Placed, Stepped, atEnd, block, channelIs, deviceAt, identifierAt, refused}
+use Rattle.diagnostics.specs.Walk.{StepAnswer, PlacedBlock, Stepped, atEnd, block, channelIs, deviceAt, identifierAt, refused}
 use Rattle.diagnostics.specs.declared.channel.ChannelDataType.{ChannelDataType}
 use Rattle.diagnostics.specs.declared.channel.ChannelDataType.the-variants.{Bit, Bit2, Bit4, Byte, Word, DWord, Invalid}
 use Rattle.diagnostics.specs.declared.channel.ChannelDiagnostics.{ChannelDiagnostics}
@@ -38,8 +38,8 @@ type-again DWord = refl
 type-again Invalid = refl
 
 -- a type is its number's
-pub type-told : (x y : ChannelDataType) → shownType x ≡ shownType y → x ≡ y
-type-told = injective shownType typeBack type-again
+pub shownType-injective : (x y : ChannelDataType) → shownType x ≡ shownType y → x ≡ y
+shownType-injective = injective shownType typeBack type-again
 
 abbrev errorBack : Error → ChannelError
 errorBack (named n) = getD (errors.ShortCircuit ∷ errors.UnderVoltage ∷ errors.OverVoltage ∷ errors.OverLoad ∷ errors.OverTemperature ∷ errors.LineBreak ∷ errors.UpperLimitOvershoot ∷ errors.LowerLimitUndershoot ∷ errors.Error ∷ []) (n - 1) errors.Error
@@ -60,8 +60,8 @@ error-again (errors.Vendor n) = refl
 error-again (errors.Reserved n) = refl
 
 -- an error is its number's, within its sort
-pub error-told : (x y : ChannelError) → shownError x ≡ shownError y → x ≡ y
-error-told = injective shownError errorBack error-again
+pub shownError-injective : (x y : ChannelError) → shownError x ≡ shownError y → x ≡ y
+shownError-injective = injective shownError errorBack error-again
 
 abbrev channelBack : Channel → ChannelDiagnostics
 channelBack c = record {
@@ -76,8 +76,8 @@ channelBack c = record {
 channel-again : (x : ChannelDiagnostics) → channelBack (shownChannel x) ≡ x
 channel-again x = rw (type-again (x .dtype), error-again (x .error))
 
-pub channel-told : (x y : ChannelDiagnostics) → shownChannel x ≡ shownChannel y → x ≡ y
-channel-told = injective shownChannel channelBack channel-again
+pub shownChannel-injective : (x y : ChannelDiagnostics) → shownChannel x ≡ shownChannel y → x ≡ y
+shownChannel-injective = injective shownChannel channelBack channel-again
 
 moduleBack : Option ℕ → Module
 moduleBack none = Nothing
@@ -88,10 +88,10 @@ unfolding moduleBack
 module-again Nothing = refl
 module-again (At n) = refl
 
-pub module-told : (x y : Module) → shownModule x ≡ shownModule y → x ≡ y
-module-told = injective shownModule moduleBack module-again
+pub shownModule-injective : (x y : Module) → shownModule x ≡ shownModule y → x ≡ y
+shownModule-injective = injective shownModule moduleBack module-again
 
-abbrev blockBack : Placed → ExtDiagBlock
+abbrev blockBack : PlacedBlock → ExtDiagBlock
 blockBack (identifierAt start size) = blocks.Identifier (record { start = start; len = size })
 blockBack (deviceAt start size) = blocks.Device (record { start = start; len = size })
 blockBack (channelIs c) = blocks.Channel (channelBack c)
@@ -123,5 +123,5 @@ step-again : (x : Step) → stepBack (shownStep x) ≡ x
 step-again x = rw (found-again (x .found))
 
 -- what `next` promises fits one answer alone
-pub step-told : (x y : Step) → shownStep x ≡ shownStep y → x ≡ y
-step-told = injective shownStep stepBack step-again
+pub shownStep-injective : (x y : Step) → shownStep x ≡ shownStep y → x ≡ y
+shownStep-injective = injective shownStep stepBack step-again

@@ -1,5 +1,5 @@
--- What a step of the walk can be: the end, a refusal or a block; and what follows for the cursor and for a body.
--- Assumes nothing.
+-- What a step of the walk can be: the end, a refusal or a block (`step-case`); and what follows for the cursor: `step-stays`, `step-onward`,
+-- `step-found`, `step-refused`.
 use mathlib.Core.Path.{_≡_, refl, _∙_}
 use mathlib.Core.List.{List}
 use Prim.Native.Nat.{ℕ, _+_, _/_, _≤_, _<_}
@@ -7,9 +7,9 @@ use native.Mathlib.Decide.{decLe, decLt, ℕ-discrete}
 use native.Mathlib.Omega.{arith}
 use borrow.Author.Tests.{le-leb, lt-leb}
 use lib.ListN.{length}
-use Rattle.codes.specs.Part.{byteAt}
+use Rattle.ground.specs.Part.{byteAt}
 use Rattle.diagnostics.specs.Meaning.{Onward, ToTheEnd}
-use Rattle.diagnostics.specs.Walk.{Placed, atEnd, block, blockAt, headedBy, lengthOf, refused, refusedAt, stepOf}
+use Rattle.diagnostics.specs.Walk.{PlacedBlock, atEnd, block, blockAt, headedBy, lengthOf, refused, refusedAt, stepOf}
 use Rattle.diagnostics.proofs.Headers.{headed-block, headed-cut, headed-reserved, headed-zero}
 
 -- two cases that exclude each other
@@ -27,7 +27,9 @@ unfolding stepOf
 step-inside s at h = rw (lt-leb _ _ h)
 
 -- a whole block with a header that is not reserved is found
-pub step-block : (s : List ℕ) (at header : ℕ) → at < length s → byteAt s at ≡ header → (header / 64 ≡ 3 → ⊥) → 1 ≤ lengthOf header → at + lengthOf header ≤ length s → stepOf s at ≡ record { answer = block (blockAt s at header); cursor = at + lengthOf header }
+pub step-block : (s : List ℕ) (at header : ℕ) → at < length s → byteAt s at ≡ header → (header / 64 ≡ 3 → ⊥) → 1 ≤ lengthOf header
+    → at + lengthOf header ≤ length s
+    → stepOf s at ≡ record { answer = block (blockAt s at header); cursor = at + lengthOf header }
 step-block s at header inside head open₃ some fits =
     rw (step-inside s at inside, head) (headed-block s at header open₃ (λ e. omega arith) fits)
 
@@ -35,10 +37,13 @@ step-block s at header inside head open₃ some fits =
 pub data StepCase (s : List ℕ) (at : ℕ) : Type 0 where
   ended : length s ≤ at → stepOf s at ≡ record { answer = atEnd; cursor = at } → StepCase s at
   refusal : at < length s → (n : ℕ) → 12 ≤ n → n ≤ 14 → stepOf s at ≡ refusedAt n (length s) → StepCase s at
-  found : at < length s → (byteAt s at / 64 ≡ 3 → ⊥) → 1 ≤ lengthOf (byteAt s at) → at + lengthOf (byteAt s at) ≤ length s → stepOf s at ≡ record { answer = block (blockAt s at (byteAt s at)); cursor = at + lengthOf (byteAt s at) } → StepCase s at
+  found : at < length s → (byteAt s at / 64 ≡ 3 → ⊥) → 1 ≤ lengthOf (byteAt s at) → at + lengthOf (byteAt s at) ≤ length s
+      → stepOf s at ≡ record { answer = block (blockAt s at (byteAt s at)); cursor = at + lengthOf (byteAt s at) }
+      → StepCase s at
 
 module _ (s : List ℕ) (at : ℕ) where
-  by-room : at < length s → (byteAt s at / 64 ≡ 3 → ⊥) → 1 ≤ lengthOf (byteAt s at) → Dec (at + lengthOf (byteAt s at) ≤ length s) → StepCase s at
+  by-room : at < length s → (byteAt s at / 64 ≡ 3 → ⊥) → 1 ≤ lengthOf (byteAt s at) → Dec (at + lengthOf (byteAt s at) ≤ length s)
+      → StepCase s at
   by-room h open₃ some (yes fits) = found h open₃ some fits (step-block s at _ h refl open₃ some fits)
   by-room h open₃ some (no cut) = refusal h 12 (omega arith) (omega arith) (step-inside s at h ∙ headed-cut s at (byteAt s at) open₃ (λ e. omega arith) (omega arith))
 
@@ -66,13 +71,13 @@ onward-by (found _ _ some fits e) h = record { moves = rw e (omega arith); withi
 pub step-onward : (s : List ℕ) (at : ℕ) → at < length s → Onward s at
 step-onward s at h = onward-by (step-case s at) h
 
-found-by : {s : List ℕ} {at : ℕ} {p : Placed} → StepCase s at → stepOf s at .answer ≡ block p → Onward s at
+found-by : {s : List ℕ} {at : ℕ} {p : PlacedBlock} → StepCase s at → stepOf s at .answer ≡ block p → Onward s at
 found-by (ended past e) r = clash (cc)
 found-by (refusal h n _ _ e) r = clash (cc)
 found-by (found h open₃ some fits e) r = onward-by (found h open₃ some fits e) h
 
 -- so does a step that finds a block: what a loop over the blocks ends by
-pub step-found : (s : List ℕ) (at : ℕ) (p : Placed) → stepOf s at .answer ≡ block p → Onward s at
+pub step-found : (s : List ℕ) (at : ℕ) (p : PlacedBlock) → stepOf s at .answer ≡ block p → Onward s at
 step-found s at p r = found-by (step-case s at) r
 
 to-the-end-by : {s : List ℕ} {at : ℕ} (n : ℕ) → StepCase s at → stepOf s at .answer ≡ refused n → ToTheEnd s at n

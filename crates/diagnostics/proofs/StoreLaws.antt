@@ -1,5 +1,4 @@
 -- Laws of filling, test by test.
--- Assumes nothing.
 use mathlib.Core.Bool.{true, false}
 use mathlib.Core.List.{List, _++_}
 use mathlib.Core.Path.{_≡_}
@@ -18,6 +17,7 @@ module _ (store : List ℕ) (walked : ℕ) (bytes : List ℕ) where
     unfolding fillOf
     fill-short short = rw (ne-eqb _ _ some, lt-ltb _ _ short)
 
-    pub fill-fits : length bytes ≤ length store → fillOf store walked bytes ≡ record { answer = true; walked = length bytes; store = bytes ++ drop (length bytes) store }
+    pub fill-fits : length bytes ≤ length store
+        → fillOf store walked bytes ≡ record { answer = true; walked = length bytes; store = bytes ++ drop (length bytes) store }
     unfolding fillOf
     fill-fits fits = rw (ne-eqb _ _ some, le-ltb _ _ fits)

@@ -1,5 +1,4 @@
--- Where the walk ends whole, the bytes say the row of blocks that it gives.
--- Assumes nothing.
+-- Where the walk ends whole, the bytes say the row of blocks that it gives: `whole-walk`.
 use mathlib.Core.Path.{_≡_, refl, ap, sym, _∙_}
 use mathlib.Core.List.{List, [], _∷_}
 use Prim.Native.Nat.{ℕ, zero, suc, _+_, _-_, _/_, _%_, _≤_, _<_}
@@ -7,13 +6,14 @@ use native.Mathlib.Decide.{ℕ-discrete}
 use native.Mathlib.Numerals.{add-one}
 use native.Mathlib.Omega.{arith}
 use lib.Dec.{eqb}
-use lib.ListN.{length, take, drop, drop-of-length-le, length-drop, length-take, take-append-drop}
+use lib.ListN.{length, take, drop, drop-of-length-le, take-append-drop}
 use lib.Seq.{drop-cons, drop-drop}
-use Rattle.codes.proofs.PartLaws.{shown-fits}
-use Rattle.codes.specs.FunctionCodes.{digit}
-use Rattle.codes.specs.Part.{byteAt, part}
+use Rattle.ground.proofs.BitLaws.{digit-again}
+use Rattle.ground.proofs.PartLaws.{part-length, shown-fits}
+use Rattle.ground.specs.Bits.{digit}
+use Rattle.ground.specs.Part.{byteAt, part}
 use Rattle.diagnostics.specs.Blocks.{Block, ChannelFits, Fitting, RowSays, Says, blockBytes, channel, channelFits, device, deviceFits, firstByte, identifier, identifierFits, itsOwn, rowEnd, rowMore, secondByte, thirdByte, typeZero}
-use Rattle.diagnostics.specs.Channel.{Channel, channelOf, errorOf, numberOf, typeOf}
+use Rattle.diagnostics.specs.Channel.{Channel, channelOf, errorOf, errorNumber, typeOf}
 use Rattle.diagnostics.specs.Walk.{blockAt, bodyOf, lengthOf, pictured, walkOf, walkSteps, whole}
 use Rattle.diagnostics.proofs.Bodies.{Kind, channelKind, deviceKind, identifierKind, kind}
 use Rattle.diagnostics.proofs.Numbers.{error-number, type-kept, type-zero}
@@ -21,11 +21,6 @@ use Rattle.diagnostics.proofs.Steps.{StepCase, clash, ended, found, ste
 use Rattle.diagnostics.proofs.Walks.{walk-off, walk-on, walk-refused}
 
 -- a bit is the number that was tested
-digit-again : (n : ℕ) → n < 2 → digit (eqb n 1) ≡ n
-digit-again zero h = refl
-digit-again (suc zero) h = refl
-digit-again (suc (suc n)) h = absurd (omega arith)
-
 module _ (first second third : ℕ) where
   first-again : first / 64 ≡ 2 → firstByte (channelOf first second third) ≡ first
   first-again h = omega arith
@@ -36,7 +31,7 @@ module _ (first second third : ℕ) where
   third-again : 1 ≤ third / 32 → thirdByte (channelOf first second third) ≡ third
   third-again h = rw (type-kept _ h, error-number) (omega arith)
 
-  error-again : third / 32 ≡ 0 → numberOf (channelOf first second third .error) ≡ third
+  error-again : third / 32 ≡ 0 → errorNumber (channelOf first second third .error) ≡ third
   error-again h = rw error-number (omega arith)
 
 type-is : (n : ℕ) → 1 ≤ typeOf n
@@ -68,7 +63,7 @@ record Said (x : List ℕ) (b : Block) : Type 0 where
 own : (x : List ℕ) (b : Block) → x ≡ blockBytes b → Says x b
 own x b e = rw e itsOwn
 
-zero-said : (x : List ℕ) (c : Channel) → c .dtype ≡ 7 → x ≡ firstByte c ∷ secondByte c ∷ numberOf (c .error) ∷ [] → Says x (channel c)
+zero-said : (x : List ℕ) (c : Channel) → c .dtype ≡ 7 → x ≡ firstByte c ∷ secondByte c ∷ errorNumber (c .error) ∷ [] → Says x (channel c)
 zero-said x c seven e = rw e (typeZero seven)
 
 module _ (s : List ℕ) (at : ℕ) where
@@ -84,10 +79,6 @@ module _ (s : List ℕ) (at : ℕ) where
       let one : at + 1 ≡ suc at = omega arith in
       let two : at + 2 ≡ suc (suc at) = omega arith in
       rw (drop-cons s at 0 (omega arith), drop-cons s (suc at) 0 (omega arith), drop-cons s (suc (suc at)) 0 (omega arith), one, two)
-
--- a part that lies within is as long as it says
-part-length : (s : List ℕ) (start size : ℕ) → start + size ≤ length s → length (part s start (start + size)) ≡ size
-part-length s start size h = simp (length-take, length-drop) (omega arith)
 
 -- a body that lies within is that part
 body-part : (s : List ℕ) (start size : ℕ) → start + size ≤ length s → bodyOf s start size ≡ part s start (start + size)
@@ -117,14 +108,17 @@ module _ (s : List ℕ) (at n header : ℕ) (head : byteAt s at ≡ header) (roo
   }
 
 -- three bytes of which the first is a channel's say that channel
-channel-said : (first second third : ℕ) → first / 64 ≡ 2 → second < 256 → third < 256 → Said (first ∷ second ∷ third ∷ []) (channel (channelOf first second third))
+channel-said : (first second third : ℕ) → first / 64 ≡ 2 → second < 256 → third < 256
+    → Said (first ∷ second ∷ third ∷ []) (channel (channelOf first second third))
 channel-said first second third two h₂ h₃ = record { says = by (ℕ-discrete (third / 32) 0); fits = channelFits (said-fits first second third h₃) }
   where
     by : Dec (third / 32 ≡ 0) → Says (first ∷ second ∷ third ∷ []) (channel (channelOf first second third))
     by (yes z) = zero-said _ _ (rw z type-zero) (rw (first-again first second third two, second-again first second third h₂, error-again first second third z))
     by (no nz) = own _ _ (rw (first-again first second third two, second-again first second third h₂, third-again first second third (omega arith)))
 
-block-said : (s : List ℕ) (at header : ℕ) → byteAt s at ≡ header → ((i : ℕ) → byteAt s i < 256) → (header / 64 ≡ 3 → ⊥) → 1 ≤ lengthOf header → at + lengthOf header ≤ length s → Kind s at header → Said (take (lengthOf header) (drop at s)) (pictured s (blockAt s at header))
+block-said : (s : List ℕ) (at header : ℕ) → byteAt s at ≡ header → ((i : ℕ) → byteAt s i < 256) → (header / 64 ≡ 3 → ⊥)
+    → 1 ≤ lengthOf header → at + lengthOf header ≤ length s → Kind s at header
+    → Said (take (lengthOf header) (drop at s)) (pictured s (blockAt s at header))
 block-said s at header head byte open₃ some room (identifierKind one len is) =
     let size : lengthOf header ≡ suc (header % 64 - 1) = omega arith in
     rw (is, size) (identifier-said s at (header % 64 - 1) header head (omega arith) (omega arith) (omega arith))
@@ -135,7 +129,10 @@ block-said s at header head byte open₃ some room (deviceKind not₁ not₂ len
 block-said s at header head byte open₃ some room (channelKind two len is) =
     rw (is, len, three-bytes s at (omega arith), head) (channel-said header _ _ two (byte (at + 1)) (byte (at + 2)))
 
-walked-by : (k : ℕ) (s : List ℕ) (at : ℕ) → ((i : ℕ) → byteAt s i < 256) → StepCase s at → ((next : ℕ) → at < next → next ≤ length s → walkSteps k s next .ending ≡ whole → RowSays (drop next s) (walkSteps k s next .blocks)) → walkSteps (suc k) s at .ending ≡ whole → RowSays (drop at s) (walkSteps (suc k) s at .blocks)
+walked-by : (k : ℕ) (s : List ℕ) (at : ℕ) → ((i : ℕ) → byteAt s i < 256) → StepCase s at
+    → ((next : ℕ) → at < next → next ≤ length s → walkSteps k s next .ending ≡ whole → RowSays (drop next s) (walkSteps k s next .blocks))
+    → walkSteps (suc k) s at .ending ≡ whole
+    → RowSays (drop at s) (walkSteps (suc k) s at .blocks)
 walked-by k s at byte (ended past e) later w = rw (walk-off k s at e, drop-of-length-le s past) rowEnd
 walked-by k s at byte (refusal _ n _ _ e) later w = clash (cc (walk-refused k s at n e))
 walked-by k s at byte (found inside open₃ some room e) later w =
@@ -145,7 +142,9 @@ walked-by k s at byte (found inside open₃ some room e) later w =
     let said = block-said s at (byteAt s at) refl byte open₃ some room (kind s at (byteAt s at)) in
     rw (on, split) (rowMore (said .says) (said .fits) (later (at + size) (omega arith) room (rw on at w)))
 
-walked-from : (k : ℕ) (s : List ℕ) (at : ℕ) → ((i : ℕ) → byteAt s i < 256) → at ≤ length s → length s < at + k → walkSteps k s at .ending ≡ whole → RowSays (drop at s) (walkSteps k s at .blocks)
+walked-from : (k : ℕ) (s : List ℕ) (at : ℕ) → ((i : ℕ) → byteAt s i < 256) → at ≤ length s → length s < at + k
+    → walkSteps k s at .ending ≡ whole
+    → RowSays (drop at s) (walkSteps k s at .blocks)
 walked-from zero s at byte h more w = absurd (omega arith)
 walked-from (suc k) s at byte h more w = walked-by k s at byte (step-case s at) (λ next p q. walked-from k s next byte q (omega arith)) w
 

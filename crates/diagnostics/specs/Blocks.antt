@@ -1,12 +1,11 @@
 -- A diagnostics buffer as the standard draws it (EN 50170 part 2): a row of blocks, and which bytes a block is. Nothing
--- here knows how a reader goes about it.
--- Assumes nothing.
+-- here knows how a reader goes about it. Read `blockBytes` and `RowSays`.
 use Prim.Native.Nat.{ℕ, suc, _+_, _*_, _≤_, _<_}
 use mathlib.Core.List.{List, [], _∷_, _++_}
 use mathlib.Core.Path.{_≡_}
 use lib.ListN.{length}
-use Rattle.codes.specs.FunctionCodes.{digit}
-use Rattle.diagnostics.specs.Channel.{Channel, errorOf, numberOf}
+use Rattle.ground.specs.Bits.{digit}
+use Rattle.diagnostics.specs.Channel.{Channel, errorOf, errorNumber}
 
 -- one block, with the bytes of its body
 pub data Block : Type 0 where
@@ -24,7 +23,7 @@ secondByte c = 128 * digit (c .output) + 64 * digit (c .input) + c .channelNo
 
 -- third byte top three bits type, low five bits error
 abbrev pub thirdByte : Channel → ℕ
-thirdByte c = 32 * c .dtype + numberOf (c .error)
+thirdByte c = 32 * c .dtype + errorNumber (c .error)
 
 -- top two header bits: 01 identifier, 00 device: the low six bits are the length, header included; 10 channel, 3 bytes
 abbrev pub blockBytes : Block → List ℕ
@@ -43,8 +42,8 @@ pub record ChannelFits (c : Channel) : Type 0 where
   pub channelBits : c .channelNo < 64
   pub typeLeast : 1 ≤ c .dtype
   pub typeMost : c .dtype ≤ 7
-  pub errorBits : numberOf (c .error) < 32
-  pub errorSort : errorOf (numberOf (c .error)) ≡ c .error
+  pub errorBits : errorNumber (c .error) < 32
+  pub errorSort : errorOf (errorNumber (c .error)) ≡ c .error
 
 -- a block that its bytes have room for: the length, header included, is six bits
 pub data Fitting : Block → Type 0 where
@@ -60,7 +59,7 @@ pub data AllFitting : List Block → Type 0 where
 -- the bytes that say a block: its own; and since 0 and 7 are both Invalid, those with type bits 0 for 7
 pub data Says : List ℕ → Block → Type 0 where
   itsOwn : {b : Block} → Says (blockBytes b) b
-  typeZero : {c : Channel} → c .dtype ≡ 7 → Says (firstByte c ∷ secondByte c ∷ numberOf (c .error) ∷ []) (channel c)
+  typeZero : {c : Channel} → c .dtype ≡ 7 → Says (firstByte c ∷ secondByte c ∷ errorNumber (c .error) ∷ []) (channel c)
 
 -- the bytes that say a row of blocks, one behind the other and nothing left
 pub data RowSays : List ℕ → List Block → Type 0 where

@@ -1,9 +1,8 @@
--- Document 01, "Diagnostics": what the three bytes of a channel block say.
--- Assumes nothing.
+-- Document 01, "Diagnostics": what the three bytes of a channel block say. Read `channelOf`, with `typeOf` and `errorOf`.
 use Prim.Native.Nat.{ℕ, _/_, _%_}
 use mathlib.Core.Bool.{Bool}
 use lib.Dec.{leb, eqb}
-use Rattle.codes.specs.Pick.{if}
+use Rattle.ground.specs.Pick.{if}
 
 -- an error's number, with which of the three sorts it is of
 pub data Error : Type 0 where
@@ -12,10 +11,10 @@ pub data Error : Type 0 where
   reserved : ℕ → Error
 
 -- the number of an error, whatever its sort
-abbrev pub numberOf : Error → ℕ
-numberOf (named n) = n
-numberOf (vendor n) = n
-numberOf (reserved n) = n
+abbrev pub errorNumber : Error → ℕ
+errorNumber (named n) = n
+errorNumber (vendor n) = n
+errorNumber (reserved n) = n
 
 -- what a channel block says: a type is a number from 1 to 7, and 7 is Invalid
 pub record Channel : Type 0 where

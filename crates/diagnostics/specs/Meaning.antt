@@ -1,15 +1,14 @@
 -- What the rules of the walk mean for whoever walks, and for a body's modules. The theorems that tie the two are in proofs/Steps.antt,
 -- Bodies.antt and Searches.antt.
--- Assumes nothing.
 use Prim.Native.Nat.{ℕ, zero, suc, _+_, _-_, _≤_, _<_}
 use mathlib.Core.Bool.{true, false}
 use mathlib.Core.List.{List, [], _∷_}
 use mathlib.Core.Option.{Option, some, none}
 use mathlib.Core.Path.{_≡_}
 use lib.ListN.{length}
-use Rattle.codes.specs.Pick.{if}
+use Rattle.ground.specs.Pick.{if}
 use Rattle.diagnostics.specs.Modules.{bitOf, modulesOf}
-use Rattle.diagnostics.specs.Walk.{Placed, deviceAt, identifierAt, stepOf}
+use Rattle.diagnostics.specs.Walk.{PlacedBlock, deviceAt, identifierAt, stepOf}
 
 -- a step moves on by at least one byte, and not past the end of what is walked
 pub record Onward (s : List ℕ) (at : ℕ) : Type 0 where
@@ -24,7 +23,7 @@ pub record ToTheEnd (s : List ℕ) (at n : ℕ) : Type 0 where
   pub most : n ≤ 14
 
 -- where a block has its body
-pub data BodyOf : Placed → ℕ → ℕ → Type 0 where
+pub data BodyOf : PlacedBlock → ℕ → ℕ → Type 0 where
   ofIdentifier : {start size : ℕ} → BodyOf (identifierAt start size) start size
   ofDevice : {start size : ℕ} → BodyOf (deviceAt start size) start size
 

@@ -1,13 +1,12 @@
--- Document 01, "Diagnostics": the bits of an identifier block's body.
--- Assumes nothing.
+-- Document 01, "Diagnostics": the bits of an identifier block's body. Read `bitOf` and `firstOf`.
 use Prim.Native.Nat.{ℕ, zero, suc, _-_, _*_, _/_, _%_, _^_}
 use mathlib.Core.Bool.{Bool}
 use mathlib.Core.List.{List}
 use mathlib.Core.Option.{Option, some, none}
 use lib.ListN.{length}
 use lib.Dec.{leb, eqb}
-use Rattle.codes.specs.Pick.{if}
-use Rattle.codes.specs.Part.{byteAt}
+use Rattle.ground.specs.Pick.{if}
+use Rattle.ground.specs.Part.{byteAt}
 
 -- identifier bits: byte i/8 after the header, lowest bit first
 unfoldable pub bitOf : List ℕ → ℕ → Bool

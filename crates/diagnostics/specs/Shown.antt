@@ -1,9 +1,8 @@
 -- The numbers and values of document 01 for each case of the code's answers. The names are those of profirust.
--- Assumes nothing.
 use Prim.Native.Nat.{ℕ}
 use mathlib.Core.Option.{Option, some, none}
-use Rattle.codes.specs.Refusals.{numberOf}
-use Rattle.diagnostics.specs.Walk.{StepAnswer, Placed, Stepped, atEnd, block, channelIs, deviceAt, identifierAt, refused}
+use Rattle.ground.specs.Refusals.{numberOf}
+use Rattle.diagnostics.specs.Walk.{StepAnswer, PlacedBlock, Stepped, atEnd, block, channelIs, deviceAt, identifierAt, refused}
 use Rattle.diagnostics.specs.declared.modules.Module.{Module}
 use Rattle.diagnostics.specs.declared.modules.Module.the-variants.{At, Nothing}
 use Rattle.diagnostics.specs.declared.walk.ExtDiagBlock.{ExtDiagBlock}
@@ -57,7 +56,7 @@ abbrev pub shownModule : Module → Option ℕ
 shownModule (At n) = some n
 shownModule Nothing = none
 
-abbrev pub shownBlock : ExtDiagBlock → Placed
+abbrev pub shownBlock : ExtDiagBlock → PlacedBlock
 shownBlock (blocks.Identifier body) = identifierAt (body .start) (body .len)
 shownBlock (blocks.Channel c) = channelIs (shownChannel c)
 shownBlock (blocks.Device body) = deviceAt (body .start) (body .len)

@@ -1,11 +1,10 @@
--- Document 01, "Diagnostics": the store, which is a lent slice and a length.
--- Assumes nothing.
+-- Document 01, "Diagnostics": the store, which is a lent slice and a length. Read `walkedOf` and `fillOf`.
 use Prim.Native.Nat.{ℕ}
 use mathlib.Core.Bool.{Bool, true, false}
 use mathlib.Core.List.{List, _++_}
 use lib.ListN.{length, take, drop}
 use lib.Dec.{ltb, eqb}
-use Rattle.codes.specs.Pick.{if}
+use Rattle.ground.specs.Pick.{if}
 
 -- diagnostics are collected where the store has room for them
 abbrev pub availableOf : List ℕ → Bool

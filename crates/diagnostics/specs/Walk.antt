@@ -1,23 +1,23 @@
--- Document 01, "Diagnostics": the walk, step by step.
--- Assumes nothing.
+-- Document 01, "Diagnostics": the walk, step by step. Read `stepOf`, which the promise of a step cites, and `walkOf`, the whole walk, which the
+-- theorems are about.
 use Prim.Native.Nat.{ℕ, zero, suc, _+_, _-_, _/_, _%_}
 use mathlib.Core.List.{List, [], _∷_}
 use lib.ListN.{length}
 use lib.Dec.{leb, ltb, eqb}
-use Rattle.codes.specs.Pick.{if}
-use Rattle.codes.specs.Part.{byteAt, shownPart}
+use Rattle.ground.specs.Pick.{if}
+use Rattle.ground.specs.Part.{byteAt, shownPart}
 use Rattle.diagnostics.specs.Blocks.{Block, identifier, device, channel}
 use Rattle.diagnostics.specs.Channel.{Channel, channelOf}
 
 -- a block in its place: a body by its start and its length
-pub data Placed : Type 0 where
-  identifierAt : ℕ → ℕ → Placed
-  deviceAt : ℕ → ℕ → Placed
-  channelIs : Channel → Placed
+pub data PlacedBlock : Type 0 where
+  identifierAt : ℕ → ℕ → PlacedBlock
+  deviceAt : ℕ → ℕ → PlacedBlock
+  channelIs : Channel → PlacedBlock
 
 -- what a step finds: a block, the end, or a refusal by its number
 pub data StepAnswer : Type 0 where
-  block : Placed → StepAnswer
+  block : PlacedBlock → StepAnswer
   atEnd : StepAnswer
   refused : ℕ → StepAnswer
 
@@ -31,7 +31,7 @@ unfoldable pub lengthOf : ℕ → ℕ
 lengthOf header = if (eqb (header / 64) 2) 3 (header % 64)
 
 -- top two header bits: 01 identifier, 10 channel, 00 device; a body leaves the header out
-unfoldable pub blockAt : List ℕ → ℕ → ℕ → Placed
+unfoldable pub blockAt : List ℕ → ℕ → ℕ → PlacedBlock
 blockAt s at header =
     if (eqb (header / 64) 1) (identifierAt (at + 1) (header % 64 - 1))
     (if (eqb (header / 64) 2) (channelIs (channelOf header (byteAt s (at + 1)) (byteAt s (at + 2))))
@@ -58,7 +58,7 @@ abbrev pub bodyOf : List ℕ → ℕ → ℕ → List ℕ
 bodyOf s start size = shownPart (record { start = start; len = size }) s
 
 -- a block with its body's bytes
-abbrev pub pictured : List ℕ → Placed → Block
+abbrev pub pictured : List ℕ → PlacedBlock → Block
 pictured s (identifierAt start size) = identifier (bodyOf s start size)
 pictured s (deviceAt start size) = device (bodyOf s start size)
 pictured s (channelIs c) = channel c

@@ -1,7 +1,7 @@
-// Channel-based diagnostics: what the three bytes of a channel block say.
+// Channel-based diagnostics: what the three bytes of a channel block say. Promise: `channelOf` in specs/Channel.antt.
 ghost use mathlib.Core.Path.{_≡_};
 ghost use Prim.Native.Nat.{_*_, _/_, _%_};
-ghost use Rattle.diagnostics.specs.Channel.{channelOf, errorOf, numberOf, typeOf};
+ghost use Rattle.diagnostics.specs.Channel.{channelOf, errorOf, errorNumber, typeOf};
 ghost use Rattle.diagnostics.specs.Shown.{shownChannel, shownError, shownType};
 
 // Data type for a channel of a module.
@@ -86,7 +86,7 @@ impl ChannelError {
 
     // The error's number: its part of the third byte.
     pub fn into_diag_byte2(self) -> u8
-        ensures { λ r. ⌜ r ≡ numberOf (shownError self) ⌝ }
+        ensures { λ r. ⌜ r ≡ errorNumber (shownError self) ⌝ }
     {
         match self {
             ChannelError::ShortCircuit => 1,

@@ -1,5 +1,5 @@
 // The bits of an identifier block's body: one for each module, in the order of the configuration telegram. profirust
-// gives them as a `BitSlice`.
+// gives them as a `BitSlice`. Promises: `bitOf` and `firstOf` in specs/Modules.antt.
 ghost use mathlib.Core.Path.{_≡_};
 ghost use Prim.Native.Nat.{_%_};
 ghost use Rattle.diagnostics.specs.Modules.{bitOf, firstOf, modulesOf};

@@ -1,6 +1,5 @@
-// The store: how much of the slice that the caller lends is diagnostics, and filling it.
-use crate::walk::ExtDiagBlockIter;
-use buffers::copy_to_front;
+// The store: how much of the slice that the caller lends is diagnostics, and filling it. Promises: `walkedOf` and `fillOf` in specs/Store.antt.
+use ground::copy_to_front;
 ghost use mathlib.Core.Path.{_≡_};
 ghost use Rattle.diagnostics.specs.Store.{availableOf, fillOf, walkedOf};
 
@@ -29,13 +28,6 @@ impl ExtendedDiagnostics {
         ensures { λ r. ⌜ r ≡ availableOf (now (buffer .entry)) ⌝ }
     {
         0 < buffer.len()
-    }
-
-    // Iterate over diagnostics blocks in the extended diagnostics.
-    pub fn iter_diag_blocks(self) -> ExtDiagBlockIter
-        ensures { λ r. ⌜ r .cursor ≡ 0 ⌝ }
-    {
-        ExtDiagBlockIter { cursor: 0 }
     }
 
     // Access the raw extended diagnostics: what is walked. Where there is no store profirust gives `None`; here the part

@@ -1,13 +1,13 @@
-// The walk over the blocks of a store, one step for each call.
+// The walk over the blocks of a store, one step for each call. Promise: `stepOf` in specs/Walk.antt, seen through `shownStep`.
 use crate::channel::ChannelDiagnostics;
 use crate::store::ExtendedDiagnostics;
-use codes::Part;
-use codes::Refusal;
+use ground::Part;
+use ground::Refusal;
 ghost use mathlib.Core.Path.{_≡_};
 ghost use Prim.Native.Nat.{ℕ, _+_, _≤_, _<_, _/_, _%_, _^_};
 ghost use mathlib.Core.List.{List};
 ghost use lib.ListN.{length};
-ghost use Rattle.codes.specs.Refusals.{numberOf};
+ghost use Rattle.ground.specs.Refusals.{numberOf};
 ghost use Rattle.diagnostics.specs.Shown.{shownBlock, shownStep};
 ghost use Rattle.diagnostics.specs.Store.{walkedOf};
 ghost use Rattle.diagnostics.specs.Walk.{blockAt, headedBy, refusedAt, stepOf};
@@ -38,6 +38,16 @@ pub struct Step {
 // Iterator over the blocks of a store, by value. Any number is answered as a cursor.
 pub struct ExtDiagBlockIter {
     pub cursor: usize,
+}
+
+// The walk begins here, beside the iterator that it makes, so that the store knows nothing of the walk.
+impl ExtendedDiagnostics {
+    // Iterate over diagnostics blocks in the extended diagnostics.
+    pub fn iter_diag_blocks(self) -> ExtDiagBlockIter
+        ensures { λ r. ⌜ r .cursor ≡ 0 ⌝ }
+    {
+        ExtDiagBlockIter { cursor: 0 }
+    }
 }
 
 impl ExtDiagBlockIter {

@@ -1,47 +1,31 @@
+// The calls of an initiator. Promises: `specs/Calls.antt`.
 ghost use mathlib.Core.Path.{_≡_};
 ghost use mathlib.Core.List.{List, []};
 ghost use Prim.Native.Nat.{ℕ};
 ghost use Rattle.initiator.specs.Calls.{shownTurn, submitOf, silenceOf, awaitingOk, awaitingReply, hearOf, restartOf};
-use crate::moves::asks;
+use crate::answer::InitiatorAnswer;
+use crate::answer::InitiatorTurn;
 use crate::moves::end;
 use crate::moves::keep;
 use crate::moves::nothing;
 use crate::moves::refuse;
-use crate::moves::sends;
+use crate::moves::send_opening;
+use crate::moves::send_order;
 use crate::moves::wrong_order;
 use crate::state::Initiator;
 use crate::state::Phase;
-use codes::Part;
-use codes::Refusal;
+use ground::Refusal;
+use link_rules::ROOM;
 use link_telegrams::Bit;
 use link_telegrams::ReplyHeard;
 use link_telegrams::reply_heard;
-
-// What a call says. An outcome reports the tries of its last phase: the telegrams written in it.
-pub enum InitiatorAnswer {
-    // A telegram of so many bytes stands at the front of the buffer.
-    Sent(usize),
-    // The pending order was carried out; its reply is this part of the heard bytes.
-    Confirmed(Part, u8),
-    // The pending order was never carried out.
-    NotSent(u8),
-    // The pending order was carried out at most once.
-    Unknown(u8),
-    Nothing,
-    Refused(Refusal),
-}
-
-pub struct InitiatorTurn {
-    pub answer: InitiatorAnswer,
-    pub initiator: Initiator,
-}
 
 // In the opening's phase its reply is awaited, and then the order is sent.
 fn hear_opening_reply(initiator: Initiator, heard: ReplyHeard, buf: &mut [u8]) -> InitiatorTurn
     ensures { λ r. ⌜ shownTurn r (now (buf .exit)) ≡ awaitingOk heard initiator (now (buf .entry)) ⌝ }
 {
     match heard {
-        ReplyHeard::Ok => sends(initiator, initiator, Bit::Low, 1, buf),
+        ReplyHeard::Ok => send_order(initiator, initiator, Bit::Low, 1, buf),
         ReplyHeard::Reply(_) => nothing(initiator),
         ReplyHeard::Nothing => nothing(initiator),
     }
@@ -66,7 +50,7 @@ impl Initiator {
     pub fn submit(self, order: &[u8], buf: &mut [u8]) -> InitiatorTurn
         ensures { λ r. ⌜ shownTurn r (now (buf .exit)) ≡ submitOf self (now (order .entry)) (now (buf .entry)) ⌝ }
     {
-        if buf.len() < 255 {
+        if buf.len() < ROOM {
             return refuse(self, Refusal::NoRoom);
         }
         let phase = self.phase;
@@ -75,13 +59,13 @@ impl Initiator {
                 if wrong_order(order) {
                     return refuse(self, Refusal::OrderLength);
                 }
-                asks(self, keep(self, order), 1, buf)
+                send_opening(self, keep(self, order), 1, buf)
             }
             Phase::Ready(bit) => {
                 if wrong_order(order) {
                     return refuse(self, Refusal::OrderLength);
                 }
-                sends(self, keep(self, order), bit, 1, buf)
+                send_order(self, keep(self, order), bit, 1, buf)
             }
             Phase::Opening(_) => refuse(self, Refusal::OrderPending),
             Phase::Order(_, _) => refuse(self, Refusal::OrderPending),
@@ -91,7 +75,7 @@ impl Initiator {
     pub fn silence(self, buf: &mut [u8]) -> InitiatorTurn
         ensures { λ r. ⌜ shownTurn r (now (buf .exit)) ≡ silenceOf self (now (buf .entry)) ⌝ }
     {
-        if buf.len() < 255 {
+        if buf.len() < ROOM {
             return refuse(self, Refusal::NoRoom);
         }
         let tries = self.tries;
@@ -101,14 +85,14 @@ impl Initiator {
             Phase::Ready(_) => nothing(self),
             Phase::Opening(used) => {
                 if used < tries {
-                    asks(self, self, used + 1, buf)
+                    send_opening(self, self, used + 1, buf)
                 } else {
                     end(InitiatorAnswer::NotSent(used), self, Phase::Closed)
                 }
             }
             Phase::Order(bit, used) => {
                 if used < tries {
-                    sends(self, self, bit, used + 1, buf)
+                    send_order(self, self, bit, used + 1, buf)
                 } else {
                     end(InitiatorAnswer::Unknown(used), self, Phase::Closed)
                 }
@@ -119,22 +103,16 @@ impl Initiator {
     pub fn hear(self, heard: &[u8], buf: &mut [u8]) -> InitiatorTurn
         ensures { λ r. ⌜ shownTurn r (now (buf .exit)) ≡ hearOf self (now (heard .entry)) (now (buf .entry)) ⌝ }
     {
-        if buf.len() < 255 {
+        if buf.len() < ROOM {
             return refuse(self, Refusal::NoRoom);
         }
-        let own = self.own;
-        let peer = self.peer;
+        let link = self.link;
         let phase = self.phase;
         match phase {
             Phase::Closed => nothing(self),
             Phase::Ready(_) => nothing(self),
-            Phase::Opening(_) => hear_opening_reply(self, reply_heard(own, peer, heard), buf),
-            Phase::Order(bit, used) => hear_order_reply(
-                self,
-                bit,
-                used,
-                reply_heard(own, peer, heard),
-            ),
+            Phase::Opening(_) => hear_opening_reply(self, reply_heard(link, heard), buf),
+            Phase::Order(bit, used) => hear_order_reply(self, bit, used, reply_heard(link, heard)),
         }
     }
 

@@ -1,15 +1,17 @@
 ghost use mathlib.Core.Path.{_≡_};
 ghost use mathlib.Core.List.{List};
 ghost use Prim.Native.Nat.{ℕ};
-ghost use Rattle.codes.specs.Refusals.{numberOf};
-ghost use Rattle.initiator.specs.Calls.{shownSaid, shownTurn, keeping, inPhase, endsOf, refusing, nothingOf, wrote, asksOf, sendsOf, wrongOrder, WroteOrder};
+ghost use Rattle.ground.specs.Refusals.{numberOf};
+ghost use Rattle.initiator.specs.Calls.{shownSaid, shownTurn, keeping, inPhase, endsOf, sendsOpening, sendsOrder, wrongOrder};
+ghost use Rattle.initiator.specs.Leaves.{WroteOrder};
+ghost use Rattle.link_telegrams.specs.Turns.{nothing as silent, saying, refusing, wrote};
 ghost use Rattle.telegram_tx.specs.Writing.{shownWriting};
-use crate::calls::InitiatorAnswer;
-use crate::calls::InitiatorTurn;
+use crate::answer::InitiatorAnswer;
+use crate::answer::InitiatorTurn;
 use crate::state::Initiator;
 use crate::state::Phase;
-use buffers::copy_to_front;
-use codes::Refusal;
+use ground::Refusal;
+use ground::copy_to_front;
 use link_rules::wrong_length;
 use link_telegrams::Bit;
 use link_telegrams::opening_header;
@@ -17,7 +19,7 @@ use link_telegrams::order_header;
 use telegram_tx::TelegramTxResult;
 use telegram_tx::send_data_telegram;
 
-// What the calls are made of: the record with another phase or order, and the two telegrams written.
+// What the calls of `calls.rt` are made of: the record with another phase or order, and the two telegrams written.
 
 pub(crate) fn keep(initiator: Initiator, order: &[u8]) -> Initiator
     ensures { λ r. ⌜ r ≡ keeping initiator (now (order .entry)) ⌝ }
@@ -33,12 +35,10 @@ pub(crate) fn keep(initiator: Initiator, order: &[u8]) -> Initiator
 fn in_phase(initiator: Initiator, phase: Phase) -> Initiator
     ensures { λ r. ⌜ r ≡ inPhase initiator phase ⌝ }
 {
-    let own = initiator.own;
-    let peer = initiator.peer;
+    let link = initiator.link;
     let order = initiator.order;
     Initiator {
-        own,
-        peer,
+        link,
         tries: initiator.tries,
         phase,
         order,
@@ -65,7 +65,7 @@ pub(crate) fn refuse(initiator: Initiator, refusal: Refusal) -> InitiatorTurn
 }
 
 pub(crate) fn nothing(initiator: Initiator) -> InitiatorTurn
-    ensures { λ r. ⌜ ((buf : List ℕ) → shownTurn r buf ≡ nothingOf initiator buf) ⌝ }
+    ensures { λ r. ⌜ ((buf : List ℕ) → shownTurn r buf ≡ saying silent initiator buf) ⌝ }
 {
     InitiatorTurn {
         answer: InitiatorAnswer::Nothing,
@@ -95,12 +95,16 @@ fn written(result: TelegramTxResult, given: Initiator, next: Initiator) -> Initi
     }
 }
 
-pub(crate) fn asks(given: Initiator, next: Initiator, used: u8, buf: &mut [u8]) -> InitiatorTurn
-    ensures { λ r. ⌜ shownTurn r (now (buf .exit)) ≡ asksOf given next used (now (buf .entry)) ⌝ }
+pub(crate) fn send_opening(
+    given: Initiator,
+    next: Initiator,
+    used: u8,
+    buf: &mut [u8],
+) -> InitiatorTurn
+    ensures { λ r. ⌜ shownTurn r (now (buf .exit)) ≡ sendsOpening given next used (now (buf .entry)) ⌝ }
 {
-    let own = next.own;
-    let peer = next.peer;
-    let result = send_data_telegram(opening_header(own, peer), b"", buf);
+    let link = next.link;
+    let result = send_data_telegram(opening_header(link), b"", buf);
     written(result, given, in_phase(next, Phase::Opening(used)))
 }
 
@@ -108,21 +112,20 @@ pub(crate) fn asks(given: Initiator, next: Initiator, used: u8, buf: &mut [u8]) 
 fn write_order(initiator: Initiator, bit: Bit, buf: &mut [u8]) -> TelegramTxResult
     ensures { λ r. ⌜ WroteOrder initiator bit r (now (buf .entry)) (now (buf .exit)) ⌝ }
 {
-    let own = initiator.own;
-    let peer = initiator.peer;
+    let link = initiator.link;
     let order = initiator.order;
     let len = initiator.order_len();
-    send_data_telegram(order_header(own, peer, bit), &order[..len], buf)
+    send_data_telegram(order_header(link, bit), &order[..len], buf)
 }
 
-pub(crate) fn sends(
+pub(crate) fn send_order(
     given: Initiator,
     next: Initiator,
     bit: Bit,
     used: u8,
     buf: &mut [u8],
 ) -> InitiatorTurn
-    ensures { λ r. ⌜ shownTurn r (now (buf .exit)) ≡ sendsOf given next bit used (now (buf .entry)) ⌝ }
+    ensures { λ r. ⌜ shownTurn r (now (buf .exit)) ≡ sendsOrder given next bit used (now (buf .entry)) ⌝ }
 {
     let result = write_order(next, bit, buf);
     written(result, given, in_phase(next, Phase::Order(bit, used)))

@@ -1,10 +1,14 @@
+// The record of an initiator, how one is made, and what may be asked of it. Promises: `specs/Records.antt`.
 ghost use mathlib.Core.Path.{_≡_};
-ghost use Rattle.link_rules.specs.Rules.{noStation};
-ghost use Rattle.initiator.specs.Records.{closedOf, shownMade, madeOf, defaultTries, isPending, usedOf, bitOf, lenOf};
-use codes::Address;
-use codes::Answer;
+ghost use Rattle.link_rules.specs.Rules.{noLink, defaultTries};
+ghost use Rattle.initiator.specs.Records.{closedOf, shownMade, madeOf, isPending, usedOf, bitOf, lenOf};
 use codes::FrameCountBit;
-use codes::Refusal;
+use ground::Address;
+use ground::Answer;
+use ground::Refusal;
+use link_rules::DEFAULT_TRIES;
+use link_rules::LONGEST;
+use link_rules::Link;
 use link_rules::wrong_addresses;
 use link_rules::wrong_tries;
 use link_telegrams::Bit;
@@ -22,8 +26,7 @@ pub enum Phase {
 }
 
 pub struct Initiator {
-    pub(crate) own: Address,
-    pub(crate) peer: Address,
+    pub(crate) link: Link,
     pub(crate) tries: u8,
     pub(crate) phase: Phase,
     // The pending order is the first `len` bytes. An outcome sets `len` to 0 and leaves the array.
@@ -36,16 +39,12 @@ pub struct InitiatorMade {
     pub initiator: Initiator,
 }
 
-// A link made without a stated number of tries takes this many.
-pub const DEFAULT_TRIES: u8 = 2;
-
-fn closed(own: Address, peer: Address, tries: u8) -> Initiator
-    ensures { λ r. ⌜ r ≡ closedOf own peer tries ⌝ }
+fn closed(link: Link, tries: u8) -> Initiator
+    ensures { λ r. ⌜ r ≡ closedOf link tries ⌝ }
 {
     let order = [0u8; 246];
     Initiator {
-        own,
-        peer,
+        link,
         tries,
         phase: Phase::Closed,
         order,
@@ -55,52 +54,54 @@ fn closed(own: Address, peer: Address, tries: u8) -> Initiator
 
 // What stands beside a refusal to make a link: its addresses are no station's, so that it writes nothing and hears nothing.
 fn not_made(refusal: Refusal) -> InitiatorMade
-    ensures { λ r. ⌜ r ≡ record { answer = Answer.Refused refusal; initiator = closedOf noStation noStation 1 } ⌝ }
+    ensures { λ r. ⌜ r ≡ record { answer = Answer.Refused refusal; initiator = closedOf noLink 1 } ⌝ }
 {
     let answer = Answer::Refused(refusal);
-    let initiator = closed(Address(255), Address(255), 1);
+    let none = Link {
+        own: Address(255),
+        peer: Address(255),
+    };
+    let initiator = closed(none, 1);
     InitiatorMade { answer, initiator }
 }
 
 impl Initiator {
     // Refusals 18 and 19, in this order.
-    pub fn new(own: Address, peer: Address, tries: u8) -> InitiatorMade
-        ensures { λ r. ⌜ shownMade r ≡ madeOf own peer tries ⌝ }
+    pub fn new(link: Link, tries: u8) -> InitiatorMade
+        ensures { λ r. ⌜ shownMade r ≡ madeOf link tries ⌝ }
     {
-        if wrong_addresses(own, peer) {
+        if wrong_addresses(link) {
             return not_made(Refusal::LinkAddresses);
         }
         if wrong_tries(tries) {
             return not_made(Refusal::Tries);
         }
-        let initiator = closed(own, peer, tries);
+        let initiator = closed(link, tries);
         InitiatorMade {
             answer: Answer::Done,
             initiator,
         }
     }
 
-    pub fn with_default_tries(own: Address, peer: Address) -> InitiatorMade
-        ensures { λ r. ⌜ shownMade r ≡ madeOf own peer defaultTries ⌝ }
+    pub fn with_default_tries(link: Link) -> InitiatorMade
+        ensures { λ r. ⌜ shownMade r ≡ madeOf link defaultTries ⌝ }
     {
-        Initiator::new(own, peer, DEFAULT_TRIES)
+        Initiator::new(link, DEFAULT_TRIES)
     }
 
     // The record of these parts, each as it is. With `order` and the questions below it takes a record through a form that another language
     // can hold; every call answers every record.
     pub fn from_parts(
-        own: Address,
-        peer: Address,
+        link: Link,
         tries: u8,
         phase: Phase,
         order: [u8; 246],
         len: usize,
     ) -> Initiator
-        ensures { λ r. ⌜ r ≡ record { own = own; peer = peer; tries = tries; phase = phase; order = order; len = len } ⌝ }
+        ensures { λ r. ⌜ r ≡ record { link = link; tries = tries; phase = phase; order = order; len = len } ⌝ }
     {
         Initiator {
-            own,
-            peer,
+            link,
             tries,
             phase,
             order,
@@ -116,15 +117,17 @@ impl Initiator {
     }
 
     pub fn own(self) -> Address
-        ensures { λ r. ⌜ r ≡ self .own ⌝ }
+        ensures { λ r. ⌜ r ≡ self .link .own ⌝ }
     {
-        self.own
+        let link = self.link;
+        link.own
     }
 
     pub fn peer(self) -> Address
-        ensures { λ r. ⌜ r ≡ self .peer ⌝ }
+        ensures { λ r. ⌜ r ≡ self .link .peer ⌝ }
     {
-        self.peer
+        let link = self.link;
+        link.peer
     }
 
     pub fn tries(self) -> u8
@@ -144,7 +147,7 @@ impl Initiator {
         ensures { λ r. ⌜ r ≡ lenOf self ⌝ }
     {
         let len = self.len;
-        if len <= 246 { len } else { 246 }
+        if len <= LONGEST { len } else { LONGEST }
     }
 }
 

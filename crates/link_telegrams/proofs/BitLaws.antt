@@ -1,8 +1,7 @@
 -- The link's bit is the frame count bit of telegrams with FCV set, and cycles as that does: "First to Low, High to Low, Low to High".
--- Assumes nothing.
 use mathlib.Core.Path.{_≡_, refl}
 use Rattle.codes.specs.FrameCountBits.{cycleOf}
-use Rattle.codes.specs.Refusals.{gives}
+use Rattle.ground.specs.Refusals.{gives}
 use Rattle.codes.specs.declared.frame_count_bit.FrameCountBit.the-variants.{First}
 use Rattle.link_telegrams.specs.Headers.{fcbOfBit, cycledBit}
 use Rattle.link_telegrams.specs.declared.headers.Bit.{Bit}

@@ -1,10 +1,11 @@
+// The headers of the link's four telegrams, and an order's bit. Promises: `specs/Headers.antt`.
 ghost use mathlib.Core.Path.{_≡_};
-ghost use Rattle.link_telegrams.specs.Headers.{openingHeader, orderHeader, okHeader, replyHeader, fcbOfBit, cycledBit, plainHeader};
-use codes::Address;
+ghost use Rattle.link_telegrams.specs.Headers.{openingHeader, orderHeader, okHeader, replyHeader, fcbOfBit, cycledBit, linkHeader};
 use codes::FrameCountBit;
 use codes::FunctionCode;
 use codes::ResponseState;
 use codes::ResponseStatus;
+use link_rules::Link;
 use telegram::DataTelegramHeader;
 use telegram::SapOption;
 
@@ -34,9 +35,11 @@ impl Bit {
     }
 }
 
-fn plain_header(own: Address, peer: Address, fc: FunctionCode) -> DataTelegramHeader
-    ensures { λ r. ⌜ r ≡ plainHeader own peer fc ⌝ }
+fn link_header(link: Link, fc: FunctionCode) -> DataTelegramHeader
+    ensures { λ r. ⌜ r ≡ linkHeader link fc ⌝ }
 {
+    let own = link.own;
+    let peer = link.peer;
     DataTelegramHeader {
         da: peer,
         sa: own,
@@ -46,34 +49,32 @@ fn plain_header(own: Address, peer: Address, fc: FunctionCode) -> DataTelegramHe
     }
 }
 
-pub fn opening_header(own: Address, peer: Address) -> DataTelegramHeader
-    ensures { λ r. ⌜ r ≡ openingHeader own peer ⌝ }
+pub fn opening_header(link: Link) -> DataTelegramHeader
+    ensures { λ r. ⌜ r ≡ openingHeader link ⌝ }
 {
-    plain_header(own, peer, FunctionCode::new_srd_low(FrameCountBit::First))
+    link_header(link, FunctionCode::new_srd_low(FrameCountBit::First))
 }
 
-pub fn order_header(own: Address, peer: Address, bit: Bit) -> DataTelegramHeader
-    ensures { λ r. ⌜ r ≡ orderHeader own peer bit ⌝ }
+pub fn order_header(link: Link, bit: Bit) -> DataTelegramHeader
+    ensures { λ r. ⌜ r ≡ orderHeader link bit ⌝ }
 {
-    plain_header(own, peer, FunctionCode::new_srd_low(bit.frame_count_bit()))
+    link_header(link, FunctionCode::new_srd_low(bit.frame_count_bit()))
 }
 
-pub fn ok_header(own: Address, peer: Address) -> DataTelegramHeader
-    ensures { λ r. ⌜ r ≡ okHeader own peer ⌝ }
+pub fn ok_header(link: Link) -> DataTelegramHeader
+    ensures { λ r. ⌜ r ≡ okHeader link ⌝ }
 {
-    let fc = FunctionCode::Response {
-        state: ResponseState::Slave,
-        status: ResponseStatus::Ok,
-    };
-    plain_header(own, peer, fc)
+    link_header(
+        link,
+        FunctionCode::new_response(ResponseState::Slave, ResponseStatus::Ok),
+    )
 }
 
-pub fn reply_header(own: Address, peer: Address) -> DataTelegramHeader
-    ensures { λ r. ⌜ r ≡ replyHeader own peer ⌝ }
+pub fn reply_header(link: Link) -> DataTelegramHeader
+    ensures { λ r. ⌜ r ≡ replyHeader link ⌝ }
 {
-    let fc = FunctionCode::Response {
-        state: ResponseState::Slave,
-        status: ResponseStatus::DataLow,
-    };
-    plain_header(own, peer, fc)
+    link_header(
+        link,
+        FunctionCode::new_response(ResponseState::Slave, ResponseStatus::DataLow),
+    )
 }

@@ -1,21 +1,24 @@
+// What heard bytes are to an end of the link. Promises: `specs/Heard.antt`.
 ghost use mathlib.Core.Path.{_≡_};
-ghost use Rattle.link_telegrams.specs.Heard.{absent, bearsOf, dataFrom, fromPeerOf, srdOf, slaveOf, requestHeardOf, replyHeardOf};
+ghost use Rattle.link_telegrams.specs.Heard.{absent, isTo, dataIn, dataToOf, srdOf, slaveOf, requestToOf, requestHeardOf, replyHeardOf};
 use crate::headers::Bit;
-use codes::Address;
 use codes::FrameCountBit;
 use codes::FunctionCode;
-use codes::Part;
 use codes::RequestType;
 use codes::ResponseState;
 use codes::ResponseStatus;
+use ground::Address;
+use ground::Part;
+use link_rules::LONGEST;
+use link_rules::Link;
 use telegram::DataTelegramHeader;
 use telegram::Deserialized;
 use telegram::SapOption;
 use telegram::Telegram;
 
-// What heard bytes are to an end: one data telegram from its peer to itself that fills them, by its code and PDU, or nothing.
-pub enum PeerTelegram {
-    Is(FunctionCode, Part),
+// What heard bytes are to a station: one data telegram to it without SAPs that fills them, by its sender, code and PDU, or nothing.
+pub enum DataHeard {
+    From(Address, FunctionCode, Part),
     Nothing,
 }
 
@@ -23,6 +26,12 @@ pub enum PeerTelegram {
 pub enum RequestHeard {
     Opening,
     Order(Bit, Part),
+    Nothing,
+}
+
+// A request SRD low to a station: who sent it, and what it is to a responder.
+pub enum RequestTo {
+    From(Address, RequestHeard),
     Nothing,
 }
 
@@ -42,14 +51,11 @@ fn has_no_sap(sap: SapOption) -> bool
     }
 }
 
-// Whether a header names these two stations and no SAPs.
-fn bears(h: DataTelegramHeader, own: Address, peer: Address) -> bool
-    ensures { λ r. ⌜ r ≡ bearsOf h own peer ⌝ }
+// Whether a header goes to this station, and names no SAPs.
+fn is_to(h: DataTelegramHeader, own: Address) -> bool
+    ensures { λ r. ⌜ r ≡ isTo h own ⌝ }
 {
     if h.da.0 != own.0 {
-        return false;
-    }
-    if h.sa.0 != peer.0 {
         return false;
     }
     let dsap = h.dsap;
@@ -62,47 +68,36 @@ fn bears(h: DataTelegramHeader, own: Address, peer: Address) -> bool
 }
 
 // Of a telegram of `total` bytes, in `n` bytes heard.
-fn data_from(
-    n: usize,
-    total: usize,
-    own: Address,
-    peer: Address,
-    telegram: Telegram,
-) -> PeerTelegram
-    ensures { λ r. ⌜ r ≡ dataFrom n total own peer telegram ⌝ }
+fn data_in(n: usize, total: usize, own: Address, telegram: Telegram) -> DataHeard
+    ensures { λ r. ⌜ r ≡ dataIn n total own telegram ⌝ }
 {
     match telegram {
         Telegram::Data(d) => {
             if total != n {
-                return PeerTelegram::Nothing;
+                return DataHeard::Nothing;
             }
             let h = d.h;
-            if bears(h, own, peer) {
+            if is_to(h, own) {
+                let sa = h.sa;
                 let fc = h.fc;
                 let pdu = d.pdu;
-                PeerTelegram::Is(fc, pdu)
+                DataHeard::From(sa, fc, pdu)
             } else {
-                PeerTelegram::Nothing
+                DataHeard::Nothing
             }
         }
-        Telegram::Token(_) => PeerTelegram::Nothing,
-        Telegram::ShortConfirmation => PeerTelegram::Nothing,
+        Telegram::Token(_) => DataHeard::Nothing,
+        Telegram::ShortConfirmation => DataHeard::Nothing,
     }
 }
 
-fn from_peer(own: Address, peer: Address, heard: &[u8]) -> PeerTelegram
-    ensures { λ r. ⌜ r ≡ fromPeerOf own peer (now (heard .entry)) ⌝ }
+fn data_to(own: Address, heard: &[u8]) -> DataHeard
+    ensures { λ r. ⌜ r ≡ dataToOf own (now (heard .entry)) ⌝ }
 {
     match Telegram::deserialize(heard) {
-        Deserialized::Telegram(telegram, total) => data_from(
-            heard.len(),
-            total,
-            own,
-            peer,
-            telegram,
-        ),
-        Deserialized::Incomplete => PeerTelegram::Nothing,
-        Deserialized::Refused(_) => PeerTelegram::Nothing,
+        Deserialized::Telegram(telegram, total) => data_in(heard.len(), total, own, telegram),
+        Deserialized::Incomplete => DataHeard::Nothing,
+        Deserialized::Refused(_) => DataHeard::Nothing,
     }
 }
 
@@ -123,18 +118,34 @@ fn srd(fcb: FrameCountBit, pdu: Part) -> RequestHeard
     }
 }
 
-// What these bytes are to the responder `own` whose initiator is `peer`.
-pub fn request_heard(own: Address, peer: Address, heard: &[u8]) -> RequestHeard
-    ensures { λ r. ⌜ r ≡ requestHeardOf own peer (now (heard .entry)) ⌝ }
+// Which station's request SRD low to `own` these bytes are, and what it is to a responder.
+pub fn request_to(own: Address, heard: &[u8]) -> RequestTo
+    ensures { λ r. ⌜ r ≡ requestToOf own (now (heard .entry)) ⌝ }
 {
-    let PeerTelegram::Is(fc, pdu) = from_peer(own, peer, heard) else {
-        return RequestHeard::Nothing;
+    let DataHeard::From(sa, fc, pdu) = data_to(own, heard) else {
+        return RequestTo::Nothing;
     };
     let FunctionCode::Request { fcb, req } = fc else {
-        return RequestHeard::Nothing;
+        return RequestTo::Nothing;
     };
     if req.number() == RequestType::SrdLow.number() {
-        srd(fcb, pdu)
+        RequestTo::From(sa, srd(fcb, pdu))
+    } else {
+        RequestTo::Nothing
+    }
+}
+
+// What these bytes are to the responder of the link: a request of its initiator.
+pub fn request_heard(link: Link, heard: &[u8]) -> RequestHeard
+    ensures { λ r. ⌜ r ≡ requestHeardOf link (now (heard .entry)) ⌝ }
+{
+    let own = link.own;
+    let peer = link.peer;
+    let RequestTo::From(sa, request) = request_to(own, heard) else {
+        return RequestHeard::Nothing;
+    };
+    if sa.0 == peer.0 {
+        request
     } else {
         RequestHeard::Nothing
     }
@@ -150,7 +161,7 @@ fn slave(status: ResponseStatus, pdu: Part) -> ReplyHeard
         return ReplyHeard::Nothing;
     }
     if status.number() == ResponseStatus::DataLow.number() {
-        if pdu.len <= 246 {
+        if pdu.len <= LONGEST {
             return ReplyHeard::Reply(pdu);
         }
         return ReplyHeard::Nothing;
@@ -158,13 +169,18 @@ fn slave(status: ResponseStatus, pdu: Part) -> ReplyHeard
     ReplyHeard::Nothing
 }
 
-// What these bytes are to the initiator `own` whose responder is `peer`.
-pub fn reply_heard(own: Address, peer: Address, heard: &[u8]) -> ReplyHeard
-    ensures { λ r. ⌜ r ≡ replyHeardOf own peer (now (heard .entry)) ⌝ }
+// What these bytes are to the initiator of the link: a reply of its responder.
+pub fn reply_heard(link: Link, heard: &[u8]) -> ReplyHeard
+    ensures { λ r. ⌜ r ≡ replyHeardOf link (now (heard .entry)) ⌝ }
 {
-    let PeerTelegram::Is(fc, pdu) = from_peer(own, peer, heard) else {
+    let own = link.own;
+    let peer = link.peer;
+    let DataHeard::From(sa, fc, pdu) = data_to(own, heard) else {
         return ReplyHeard::Nothing;
     };
+    if sa.0 != peer.0 {
+        return ReplyHeard::Nothing;
+    }
     let FunctionCode::Response { state, status } = fc else {
         return ReplyHeard::Nothing;
     };

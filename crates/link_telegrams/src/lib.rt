@@ -1,5 +1,5 @@
 // The order link's telegrams: which headers they have, and what heard bytes are to an end of the link. What the link does with
-// them is in the crates above; SRD low, Slave, Ok and DataLow are named here and nowhere else.
+// them is in the crates above, in the words of `specs/Turns.antt`; SRD low, Slave, Ok and DataLow are named here and nowhere else.
 pub mod headers;
 pub mod heard;
 
@@ -10,5 +10,7 @@ pub use headers::order_header;
 pub use headers::reply_header;
 pub use heard::ReplyHeard;
 pub use heard::RequestHeard;
+pub use heard::RequestTo;
 pub use heard::reply_heard;
 pub use heard::request_heard;
+pub use heard::request_to;

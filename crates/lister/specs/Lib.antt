@@ -1,1 +1,3 @@
-pub mod Reads
+-- What is printed stands in crate `listing`: `outputOf`.
+-- what private functions promise each other
+pub mod Leaves

@@ -1,4 +1,4 @@
-// Lists the telegrams of standard input on standard output.
+// Lists the telegrams of standard input on standard output. Promise: `outputOf` of crate `listing`, in `put_output`.
 use libc::STDERR_FILENO;
 use libc::STDIN_FILENO;
 use libc::STDOUT_FILENO;
@@ -9,7 +9,7 @@ ghost use Prim.Native.Nat.{_≤_};
 ghost use lib.ListN.{length};
 ghost use Rattle.listing.specs.Answers.{textIn};
 ghost use Rattle.listing.specs.Listing.{listingRoom, outputOf};
-ghost use Rattle.lister.specs.Reads.{moreWithin, inputWithin};
+ghost use Rattle.lister.specs.Leaves.{moreWithin, inputWithin};
 
 // One more byte than the lister takes is enough to know that the input is above the limit.
 const INPUT_ROOM: usize = 4097;

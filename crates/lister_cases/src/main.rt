@@ -1,4 +1,7 @@
-// The lister's text for inputs of every kind, and its calls around their limits, held to the stored output.
+// The lister's text for the captures of samples/, which stand on standard input one after the other, then for inputs of every kind, and its
+// calls around their limits, held to the stored output.
+use ground::Part;
+use libc::STDIN_FILENO;
 use libc::STDOUT_FILENO;
 use listing::LISTING_ROOM;
 use listing::Listed;
@@ -36,6 +39,16 @@ fn measure(input: &[u8]) {
     print_answer(listing::list(input, &mut text));
 }
 
+// Two captures of one length.
+fn captures() {
+    let mut both = io::large_buffer();
+    let len = io::read_full(STDIN_FILENO, &mut both) / 2;
+    let first = Part { start: 0, len };
+    let second = Part { start: len, len };
+    show(first.show(&both));
+    show(second.show(&both));
+}
+
 fn ends() {
     show(b"");
     show(b"\xE5\x00\xE5");
@@ -65,6 +78,7 @@ fn limits() {
 }
 
 fn main() {
+    captures();
     ends();
     kinds();
     rooms();

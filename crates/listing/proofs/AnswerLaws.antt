@@ -1,36 +1,55 @@
--- Laws of the calls' answers: each way out of a call makes its promise; and a room that is always enough.
--- Assumes nothing.
+-- Laws of the calls' answers: each way out of a call makes its promise; what `text` shows of it, `output-shown`, in a room that is always enough;
+-- and that no two answers are shown alike, `shown-listed-injective`.
 use mathlib.Core.List.{List}
-use mathlib.Core.Path.{_≡_, ap, _∙_}
+use mathlib.Core.Path.{_≡_, refl, ap, _∙_}
 use Prim.Native.Nat.{ℕ, _+_, _-_, _≤_, _<_}
 use native.Mathlib.Omega.{arith}
 use native.Mathlib.Decide.{decLe}
 use lib.ListN.{length, take}
 use borrow.Author.Tests.{lt-ltb, le-ltb, le-leb, lt-leb}
-use Rattle.codes.specs.Part.{shownPart}
-use Rattle.codes.specs.Refusals.{gives}
-use Rattle.codes.specs.declared.refusal.Refusal.the-variants.{NoRoom, InputTooLong}
+use Rattle.ground.specs.Part.{shownPart}
+use Rattle.ground.specs.Refusals.{OrRefused, gives, refused}
+use Rattle.ground.specs.declared.refusal.Refusal.the-variants.{NoRoom, InputTooLong}
+use Rattle.ground.proofs.Injective.{injective}
+use Rattle.ground.proofs.RefusalLaws.{refusalOf, refusal-again}
 use Rattle.telegram.specs.Begins.{Bytes}
 use Rattle.text.specs.Placed.{laid, Placed}
 use Rattle.text.proofs.PlacedLaws.{laid-length, laid-front}
 use Rattle.listing.specs.declared.whole.Listed.{Listed}
 use Rattle.listing.specs.declared.whole.Listed.the-variants.{Text, Refused}
-use Rattle.listing.specs.Answers.{shownListed, textIn, madeOf, listOf, Made}
+use Rattle.listing.specs.Answers.{shownListed, textIn, printedOf, listOf, Printed}
 use Rattle.listing.specs.Listing.{listingOf, refusedLine, outputOf, listingRoom}
 use Rattle.listing.proofs.ListingLaws.{listing-room}
 
-module _ (text before : List ℕ) where
-  pub made-short : length before < length text → Made text before (madeOf text (length before)) (Refused NoRoom) before
-  unfolding madeOf
-  made-short h = record { result = rw (lt-leb _ _ h); buffer = rw (lt-leb _ _ h) }
+-- ---- an answer is led back to from what is shown of it
 
-  pub made-done : {next : ℕ} {after : List ℕ} → length text ≤ length before → Placed before 0 text next after → Made text before (madeOf text (length before)) (Text next) after
-  unfolding madeOf
-  made-done {next} h p =
+listedOf : OrRefused ℕ → Listed
+listedOf (gives len) = Text len
+listedOf (refused number) = Refused (refusalOf number)
+
+listed-again : (answer : Listed) → listedOf (shownListed answer) ≡ answer
+unfolding listedOf
+listed-again (Text len) = refl
+listed-again (Refused refusal) = ap Refused (refusal-again refusal)
+
+pub shown-listed-injective : (r s : Listed) → shownListed r ≡ shownListed s → r ≡ s
+shown-listed-injective = injective shownListed listedOf listed-again
+
+-- ---- the ways out of a call
+
+module _ (text before : List ℕ) where
+  pub printed-short : length before < length text → Printed text before (printedOf text (length before)) (Refused NoRoom) before
+  unfolding printedOf
+  printed-short h = record { result = rw (lt-leb _ _ h); buffer = rw (lt-leb _ _ h) }
+
+  pub printed-done : {next : ℕ} {after : List ℕ} → length text ≤ length before → Placed before 0 text next after
+      → Printed text before (printedOf text (length before)) (Text next) after
+  unfolding printedOf
+  printed-done {next} h p =
       let end : next ≡ length text = omega (arith, p .place) in
       record { result = rw (le-leb _ _ h, end); buffer = rw (le-leb _ _ h) (p .buffer) }
 
--- ---- what is made is shown
+-- ---- what is printed is shown
 
 part-front : (buffer : List ℕ) (len : ℕ) → len ≤ length buffer → shownPart (record { start = 0; len = len }) buffer ≡ take len buffer
 unfolding shownPart
@@ -41,8 +60,9 @@ part-front buffer len h =
 
 -- The text of a call that was not refused is shown byte for byte.
 pub text-shown : {text before after : List ℕ} {answer : Listed} → length text ≤ length before
-    → Made text before (madeOf text (length before)) answer after → textIn answer after ≡ text
-unfolding madeOf
+    → Printed text before (printedOf text (length before)) answer after
+    → textIn answer after ≡ text
+unfolding printedOf
 text-shown {text} {before} {after} {answer} h m = go answer (rw (le-leb _ _ h) at (m .result)) (rw (le-leb _ _ h) at (m .buffer))
   where
     go : (a : Listed) → shownListed a ≡ gives (length text) → after ≡ laid before 0 text → textIn a after ≡ text
@@ -52,13 +72,14 @@ text-shown {text} {before} {after} {answer} h m = go answer (rw (le-leb _ _ h) a
     go (Refused x) r b = let z : _≡_ {A = ℕ} 0 1 = cc in absurd (omega arith)
 
 module _ (input : List ℕ) where
-  pub list-long : (before : List ℕ) → 4096 < length input → Made (listingOf input) before (listOf input (length before)) (Refused InputTooLong) before
+  pub list-long : (before : List ℕ) → 4096 < length input
+      → Printed (listingOf input) before (listOf input (length before)) (Refused InputTooLong) before
   unfolding listOf
   list-long before h = record { result = rw (lt-ltb _ _ h); buffer = rw (lt-ltb _ _ h) }
 
-  pub list-made : (room : ℕ) → length input ≤ 4096 → listOf input room ≡ madeOf (listingOf input) room
+  pub list-printed : (room : ℕ) → length input ≤ 4096 → listOf input room ≡ printedOf (listingOf input) room
   unfolding listOf
-  list-made room h = rw (le-ltb _ _ h)
+  list-printed room h = rw (le-ltb _ _ h)
 
   pub output-long : 4096 < length input → outputOf input ≡ refusedLine
   unfolding outputOf
@@ -68,15 +89,15 @@ module _ (input : List ℕ) where
   unfolding outputOf
   output-listing h = rw (le-ltb _ _ h)
 
-  -- `output` made of `list`
+  -- `output` of what `list` printed
   pub output-listed : {before after : List ℕ} {answer : Listed} → length input ≤ 4096
-      → Made (listingOf input) before (listOf input (length before)) answer after
-      → Made (outputOf input) before (madeOf (outputOf input) (length before)) answer after
-  output-listed {before} h m = rw (output-listing h) (rw (list-made (length before) h) at m)
+      → Printed (listingOf input) before (listOf input (length before)) answer after
+      → Printed (outputOf input) before (printedOf (outputOf input) (length before)) answer after
+  output-listed {before} h m = rw (output-listing h) (rw (list-printed (length before) h) at m)
 
   pub output-refused : {before after : List ℕ} {answer : Listed} → 4096 < length input
-      → Made refusedLine before (madeOf refusedLine (length before)) answer after
-      → Made (outputOf input) before (madeOf (outputOf input) (length before)) answer after
+      → Printed refusedLine before (printedOf refusedLine (length before)) answer after
+      → Printed (outputOf input) before (printedOf (outputOf input) (length before)) answer after
   output-refused h m = rw (output-long h) m
 
   -- What the lister prints fits the room, whatever the input.
@@ -88,11 +109,12 @@ module _ (input : List ℕ) where
       go (no h) = rw (output-long (omega arith)) (omega arith)
 
   -- So with that room `output` is never refused.
-  pub output-made : (room : ℕ) → Bytes input → listingRoom ≤ room → madeOf (outputOf input) room ≡ gives (length (outputOf input))
-  unfolding madeOf
-  output-made room byte h = rw (le-leb (length (outputOf input)) room (omega (arith, output-room byte)))
+  pub output-printed : (room : ℕ) → Bytes input → listingRoom ≤ room → printedOf (outputOf input) room ≡ gives (length (outputOf input))
+  unfolding printedOf
+  output-printed room byte h = rw (le-leb (length (outputOf input)) room (omega (arith, output-room byte)))
 
   -- And what `text` shows of its answer is what document 01 says, for every input.
   pub output-shown : {before after : List ℕ} {answer : Listed} → Bytes input → listingRoom ≤ length before
-      → Made (outputOf input) before (madeOf (outputOf input) (length before)) answer after → textIn answer after ≡ outputOf input
+      → Printed (outputOf input) before (printedOf (outputOf input) (length before)) answer after
+      → textIn answer after ≡ outputOf input
   output-shown byte h m = text-shown (omega (arith, output-room byte)) m

@@ -1,10 +1,10 @@
 -- Laws of a line: its pieces placed one behind the other, and how long it is.
--- Assumes nothing.
 use mathlib.Core.Path.{_≡_}
 use mathlib.Core.List.{List, _++_}
 use Prim.Native.Nat.{ℕ, _+_, _≤_, _<_}
 use native.Mathlib.Omega.{arith}
 use lib.ListN.{length, length-append}
+use Rattle.telegram.specs.Stream.{Ending}
 use Rattle.text.specs.Decimal.{decimalOf}
 use Rattle.text.specs.Placed.{Placed}
 use Rattle.text.specs.Quoted.{bytesOf}
@@ -12,6 +12,7 @@ use Rattle.text.proofs.DecimalLaws.{decimal-length}
 use Rattle.text.proofs.PlacedLaws.{then}
 use Rattle.listing.specs.declared.line.End.{End}
 use Rattle.listing.specs.declared.line.End.the-variants.{Refused}
+use Rattle.listing.specs.Leaves.{shownEnd}
 use Rattle.listing.specs.declared.line.Figure.{Figure}
 use Rattle.listing.specs.declared.line.Figure.the-variants.{Number, Absent}
 use Rattle.listing.specs.declared.line.Kind.{Kind}
@@ -35,7 +36,7 @@ module _ {b₀ b₁ b₂ name : List ℕ} {to n₁ n₂ : ℕ} {figure : Figure}
 
 -- a refusal's number, as it was widened
 pub end-refused : {before after : List ℕ} {to next k n : ℕ} {end : End} → end ≡ Refused k → n ≡ k
-    → Placed before to (bytesOf "end=refused-" ++ decimalOf n) next after → Placed before to (endName end) next after
+    → Placed before to (bytesOf "end=refused-" ++ decimalOf n) next after → Placed before to (endName (shownEnd end)) next after
 end-refused e w f = rw (e, ← w) f
 
 -- ---- lengths
@@ -74,6 +75,6 @@ pub line-short : (l : Line) → Short l → length (lineOf l) ≤ 74
 line-short l s =
     omega (arith, line-length l, kind-length (l .kind), four-digits (l .at) (s .at), figure-length (l .len) (s .len))
 
-pub end-length : (end : End) (at : ℕ) → length (endOf end at) ≡ 5 + length (endName end) + length (decimalOf at)
+pub end-length : (ending : Ending) (at : ℕ) → length (endOf ending at) ≡ 5 + length (endName ending) + length (decimalOf at)
 unfolding endOf
-end-length end at = simp length-append (omega arith)
+end-length ending at = simp length-append (omega arith)

@@ -1,5 +1,4 @@
 -- Document 01's example and the cases around it, computed on the definitions; and what `bytes=` says of every input.
--- Assumes nothing.
 use mathlib.Core.Bool.{true}
 use mathlib.Core.List.{List, [], _∷_, _++_, append-assoc}
 use mathlib.Core.Path.{_≡_, refl}
@@ -11,14 +10,14 @@ use Rattle.codes.specs.FunctionCodes.{functionCodeOf}
 use Rattle.codes.specs.RequestTypes.{requestTypeOf}
 use Rattle.codes.specs.Responses.{stateOf, statusOf}
 use Rattle.telegram.specs.Reading.{headerAt, sapsAt, contentOf as checkedOf, frameOf, lengthsOf, dataOf, tokenOf, readOf}
+use Rattle.telegram.specs.Stream.{streamFrom, streamOf}
 use Rattle.text.specs.Begins.{begins}
 use Rattle.text.specs.Decimal.{digits, decimalOf, isDigit, digitsIn, numberAt}
 use Rattle.text.specs.Quoted.{bytesOf}
 use Rattle.text.specs.declared.decimal.Number.the-variants.{Is}
 use Rattle.text.proofs.ReadingLaws.{number-written}
 use Rattle.listing.specs.Lines.{placeOf, headerOf, contentOf, lineOf, endOf}
-use Rattle.listing.specs.Telegrams.{saidOf}
-use Rattle.listing.specs.Listing.{linesFrom, linesAt, bytesLine, listingOf, outputOf}
+use Rattle.listing.specs.Listing.{streamText, bytesLine, listingOf, outputOf}
 use Rattle.listing.proofs.AnswerLaws.{output-long}
 
 -- an input, and its listing as quoted
@@ -58,7 +57,7 @@ pub record ListingSamples : Type 0 where
   pub aboveTheLimit : outputOf (replicate 4097 0xE5) ≡ bytesOf "refused=22\n"
 
 pub listing-samples : ListingSamples
-unfolding sumOf checksumOf functionCodeOf requestTypeOf stateOf statusOf headerAt sapsAt checkedOf frameOf lengthsOf dataOf tokenOf readOf digits decimalOf placeOf headerOf contentOf lineOf endOf saidOf linesFrom bytesLine listingOf
+unfolding sumOf checksumOf functionCodeOf requestTypeOf stateOf statusOf headerAt sapsAt checkedOf frameOf lengthsOf dataOf tokenOf readOf digits decimalOf placeOf headerOf contentOf lineOf endOf streamFrom streamText bytesLine listingOf
 listing-samples =
     record {
       document01 = refl;
@@ -77,7 +76,12 @@ pub bytes-named : (input : List ℕ) → begins (bytesOf "bytes=") (listingOf in
 unfolding begins listingOf bytesLine
 bytes-named input = refl
 
-pub bytes-told : (input : List ℕ) (limit : ℕ) → length input ≤ limit → numberAt (listingOf input) 6 limit ≡ Is (length input) (6 + length (decimalOf (length input)))
+pub bytes-told : (input : List ℕ) (limit : ℕ) → length input ≤ limit
+    → numberAt (listingOf input) 6 limit ≡ Is (length input) (6 + length (decimalOf (length input)))
 unfolding listingOf bytesLine digitsIn isDigit
 bytes-told input limit h =
-    number-written (listingOf input) 6 (length input) limit (bytesOf "\n" ++ linesAt 0 input) (append-assoc (decimalOf (length input)) (bytesOf "\n") (linesAt 0 input)) refl h
+    let rest = streamText input (streamOf input) in
+    number-written (listingOf input) 6 (length input) limit (bytesOf "\n" ++ rest)
+    (append-assoc (decimalOf (length input)) (bytesOf "\n") rest)
+    refl
+    h

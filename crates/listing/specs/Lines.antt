@@ -1,18 +1,15 @@
--- Document 01, "The lister": a line of the text, from what it says to its bytes. Each field stands in brackets of its own.
--- Assumes nothing.
+-- Document 01, "The lister": a line of the text, from its figures to its bytes. Read `lineOf` and `endOf`. Each field stands in brackets of its
+-- own.
 use mathlib.Core.List.{List, _++_}
 use Prim.Native.Nat.{ℕ}
+use Rattle.telegram.specs.Stream.{Ending, done, incomplete, refused}
 use Rattle.text.specs.Decimal.{decimalOf}
 use Rattle.text.specs.Quoted.{bytesOf}
-use Rattle.listing.specs.declared.line.End.{End}
-use Rattle.listing.specs.declared.line.End.the-variants.{Done, Incomplete, Refused}
 use Rattle.listing.specs.declared.line.Figure.{Figure}
 use Rattle.listing.specs.declared.line.Figure.the-variants.{Number, Absent}
 use Rattle.listing.specs.declared.line.Kind.{Kind}
 use Rattle.listing.specs.declared.line.Kind.the-variants.{Ack, Token, Data}
 use Rattle.listing.specs.declared.line.Line.{Line}
-use Rattle.listing.specs.declared.line.Said.{Said}
-use Rattle.listing.specs.declared.line.Said.the-variants.{Telegram, Last}
 
 -- "Numbers decimal; … `-` absent"
 abbrev pub figureOf : Figure → List ℕ
@@ -46,16 +43,11 @@ unfoldable pub lineOf : Line → List ℕ
 lineOf l = placeOf l ++ headerOf l ++ contentOf l
 
 -- the ends: done, incomplete, refused-N
-abbrev pub endName : End → List ℕ
-endName Done = bytesOf "end=done"
-endName Incomplete = bytesOf "end=incomplete"
-endName (Refused n) = bytesOf "end=refused-" ++ decimalOf n
+abbrev pub endName : Ending → List ℕ
+endName done = bytesOf "end=done"
+endName incomplete = bytesOf "end=incomplete"
+endName (refused n) = bytesOf "end=refused-" ++ decimalOf n
 
 -- "`end=incomplete at=P`, `end=refused-N at=P`", and "end=done at=10"
-unfoldable pub endOf : End → ℕ → List ℕ
-endOf end at = endName end ++ (bytesOf " at=" ++ decimalOf at) ++ bytesOf "\n"
-
--- the line of what is said
-abbrev pub saidText : Said → List ℕ
-saidText (Telegram line) = lineOf line
-saidText (Last end at) = endOf end at
+unfoldable pub endOf : Ending → ℕ → List ℕ
+endOf ending at = endName ending ++ (bytesOf " at=" ++ decimalOf at) ++ bytesOf "\n"

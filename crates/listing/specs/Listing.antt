@@ -1,32 +1,28 @@
--- Document 01, "The lister": the whole text.
--- Assumes nothing.
-use mathlib.Core.List.{List, _++_}
-use Prim.Native.Nat.{ℕ, zero, suc, _+_, _*_}
+-- Document 01, "The lister": the whole text, which is that of the input's stream. Read `listingOf` and `outputOf`.
+use mathlib.Core.List.{List, [], _∷_, _++_}
+use Prim.Native.Nat.{ℕ, _+_, _*_}
 use lib.Dec.{ltb}
 use lib.ListN.{length, drop}
-use Rattle.codes.specs.Pick.{if}
+use Rattle.ground.specs.Pick.{if}
+use Rattle.telegram.specs.Stream.{Event, Stream, streamOf}
 use Rattle.text.specs.Decimal.{decimalOf}
 use Rattle.text.specs.Quoted.{bytesOf}
-use Rattle.listing.specs.declared.line.End.the-variants.{Done}
-use Rattle.listing.specs.declared.line.Said.{Said}
-use Rattle.listing.specs.declared.line.Said.the-variants.{Telegram, Last}
+use Rattle.listing.specs.declared.line.Line.{Line}
 use Rattle.listing.specs.Lines.{lineOf, endOf}
-use Rattle.listing.specs.Telegrams.{saidOf}
+use Rattle.listing.specs.Telegrams.{lineAt}
 
--- what is said, and behind a telegram's line the lines from its end on
-abbrev pub followed : (ℕ → List ℕ → List ℕ) → List ℕ → Said → List ℕ
-followed lines s (Telegram line) = lineOf line ++ lines (line .at + line .len) (drop (line .len) s)
-followed lines s (Last end at) = endOf end at
+-- the line of a telegram of the stream; its `fc` is taken from the input
+abbrev pub eventLine : List ℕ → Event → Line
+eventLine input event = lineAt (event .at) (drop (event .at) input) (event .telegram) (event .len)
 
--- the lines from a place on, where s is the input from there on. Every telegram has a byte, so that as many steps as there
--- are bytes are enough (lines-telegram and lines-last of proofs/ListingLaws.antt are the rule without the count)
-unfoldable pub linesFrom : ℕ → ℕ → List ℕ → List ℕ
-linesFrom zero at s = endOf Done at
-linesFrom (suc steps) at s = followed (linesFrom steps) s (saidOf at s)
+-- "a line per telegram"
+abbrev pub linesOf : List ℕ → List Event → List ℕ
+linesOf input [] = []
+linesOf input (event ∷ more) = lineOf (eventLine input event) ++ linesOf input more
 
--- the lines from a place on
-abbrev pub linesAt : ℕ → List ℕ → List ℕ
-linesAt at s = linesFrom (length s) at s
+-- the text of a stream: a line per telegram, and the end
+unfoldable pub streamText : List ℕ → Stream → List ℕ
+streamText input stream = linesOf input (stream .telegrams) ++ endOf (stream .ending) (stream .at)
 
 -- "prints `bytes`": the input's length
 unfoldable pub bytesLine : List ℕ → List ℕ
@@ -34,7 +30,7 @@ bytesLine input = (bytesOf "bytes=" ++ decimalOf (length input)) ++ bytesOf "\n"
 
 -- "prints `bytes`, a line per telegram", and the end
 unfoldable pub listingOf : List ℕ → List ℕ
-listingOf input = bytesLine input ++ linesAt 0 input
+listingOf input = bytesLine input ++ streamText input (streamOf input)
 
 -- "Refusal 22 prints `refused=22` alone"
 abbrev pub refusedLine : List ℕ

@@ -1,24 +1,18 @@
--- Document 01, "The lister": what is said at a place of the input.
--- Assumes nothing.
+-- Document 01, "The lister": the line of a telegram, `lineAt`.
 use mathlib.Core.List.{List}
 use Prim.Native.Nat.{ℕ}
 use lib.Dec.{eqb}
-use lib.ListN.{length}
-use Rattle.codes.specs.Part.{byteAt}
-use Rattle.codes.specs.Pick.{if}
-use Rattle.telegram.specs.Delimiters.{SD2}
-use Rattle.telegram.specs.Reading.{Reading, whole, incomplete, refused, readOf}
+use Rattle.ground.specs.Part.{byteAt}
+use Rattle.ground.specs.Pick.{if}
+use Rattle.codes.specs.Delimiters.{SD2}
 use Rattle.telegram.specs.declared.header.SapOption.{SapOption}
 use Rattle.telegram.specs.declared.header.SapOption.the-variants.{Some, None}
 use Rattle.telegram.specs.declared.kinds.Telegram.{Telegram}
 use Rattle.telegram.specs.declared.kinds.Telegram.the-variants as telegram
-use Rattle.listing.specs.declared.line.End.the-variants.{Done, Incomplete, Refused}
 use Rattle.listing.specs.declared.line.Figure.{Figure}
 use Rattle.listing.specs.declared.line.Figure.the-variants.{Number, Absent}
 use Rattle.listing.specs.declared.line.Kind.the-variants.{Ack, Token, Data}
 use Rattle.listing.specs.declared.line.Line.{Line}
-use Rattle.listing.specs.declared.line.Said.{Said}
-use Rattle.listing.specs.declared.line.Said.the-variants as said
 
 -- where a data telegram's function code stands: behind the delimiter (of SD2: its four bytes), da and sa
 abbrev pub codePlace : List ℕ → ℕ
@@ -29,8 +23,8 @@ abbrev pub sapFigure : SapOption → Figure
 sapFigure (Some sap) = Number (sap .0)
 sapFigure None = Absent
 
--- the line of a telegram of n bytes with which s begins: "`at` start, `len` telegram length, `fc` the byte received, `pdu` its
--- length, `-` absent"
+-- the line of a telegram of n bytes that starts at a place, where s is the input from there on: "`at` start, `len` telegram length, `fc` the
+-- byte received, `pdu` its length, `-` absent"
 abbrev pub lineAt : ℕ → List ℕ → Telegram → ℕ → Line
 lineAt at s telegram.ShortConfirmation n =
     record { at = at; kind = Ack; len = n; da = Absent; sa = Absent; dsap = Absent; ssap = Absent; fc = Absent; pdu = Absent }
@@ -58,13 +52,3 @@ lineAt at s (telegram.Data t) n =
       fc = Number (byteAt s (codePlace s));
       pdu = Number (t .pdu .len);
     }
-
--- "a line per telegram, stops at the first refusal, incomplete", each with the place "where that telegram starts"
-abbrev pub saidRead : ℕ → List ℕ → Reading → Said
-saidRead at s (whole t n) = said.Telegram (lineAt at s t n)
-saidRead at s incomplete = said.Last Incomplete at
-saidRead at s (refused number) = said.Last (Refused number) at
-
--- what is said at a place, where s is the input from there on: "or, done, the input's end"
-unfoldable pub saidOf : ℕ → List ℕ → Said
-saidOf at s = if (eqb (length s) 0) (said.Last Done at) (saidRead at s (readOf s))

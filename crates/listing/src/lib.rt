@@ -1,6 +1,7 @@
-// The lister's whole text, from any input into a lent buffer: `list` makes the listing, `output` all that the program prints.
+// The lister's whole text, from any input into a lent buffer: `list` makes the listing, `output` all that the program prints. The text is that of the
+// input's stream, whose rule stands in crate `telegram`.
+mod items;
 mod line;
-mod said;
 pub mod whole;
 
 pub use whole::INPUT_LIMIT;

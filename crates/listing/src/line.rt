@@ -1,9 +1,10 @@
-// A line of the listing: what it says, and its bytes put into the buffer.
+// A line of the listing: what it says, and its bytes put into the buffer. Promise: `lineOf` and `endOf` in specs/Lines.antt.
 ghost use mathlib.Core.Path.{_≡_};
 ghost use mathlib.Core.List.{_++_};
 ghost use Rattle.text.specs.Placed.{Placed};
 ghost use Rattle.text.specs.Decimal.{decimalOf};
-ghost use Rattle.listing.specs.Lines.{figureOf, kindField, placeOf, headerOf, contentOf, lineOf, endName, endOf, saidText};
+ghost use Rattle.listing.specs.Leaves.{shownEnd, itemText};
+ghost use Rattle.listing.specs.Lines.{figureOf, kindField, placeOf, headerOf, contentOf, lineOf, endName, endOf};
 
 // A figure of a line, `-` where it is absent.
 pub enum Figure {
@@ -37,8 +38,8 @@ pub enum End {
     Refused(u8),
 }
 
-// What is said at a place of the input: the line of the telegram that starts there, or that the listing ends.
-pub enum Said {
+// What is listed at a place of the input: the line of the telegram that starts there, or that the listing ends.
+pub enum Item {
     Telegram(Line),
     Last(End, usize),
 }
@@ -111,7 +112,7 @@ fn put_line(buf: &mut [u8], to: usize, line: Line) -> usize
 }
 
 fn put_end_name(buf: &mut [u8], to: usize, end: End) -> usize
-    ensures { λ r. ⌜ Placed (now (buf .entry)) to (endName end) r (now (buf .exit)) ⌝ }
+    ensures { λ r. ⌜ Placed (now (buf .entry)) to (endName (shownEnd end)) r (now (buf .exit)) ⌝ }
 {
     match end {
         End::Done => text::put_bytes(buf, to, b"end=done"),
@@ -128,18 +129,18 @@ pub(crate) fn wide(byte: u8) -> usize
 }
 
 fn put_end(buf: &mut [u8], to: usize, end: End, at: usize) -> usize
-    ensures { λ r. ⌜ Placed (now (buf .entry)) to (endOf end at) r (now (buf .exit)) ⌝ }
+    ensures { λ r. ⌜ Placed (now (buf .entry)) to (endOf (shownEnd end) at) r (now (buf .exit)) ⌝ }
 {
     let at_to = put_end_name(buf, to, end);
     let feed = put_number(buf, at_to, b" at=", at);
     text::put_byte(buf, feed, b'\n')
 }
 
-pub(crate) fn put_said(buf: &mut [u8], to: usize, said: Said) -> usize
-    ensures { λ r. ⌜ Placed (now (buf .entry)) to (saidText said) r (now (buf .exit)) ⌝ }
+pub(crate) fn put_item(buf: &mut [u8], to: usize, item: Item) -> usize
+    ensures { λ r. ⌜ Placed (now (buf .entry)) to (itemText item) r (now (buf .exit)) ⌝ }
 {
-    match said {
-        Said::Telegram(line) => put_line(buf, to, line),
-        Said::Last(end, at) => put_end(buf, to, end, at),
+    match item {
+        Item::Telegram(line) => put_line(buf, to, line),
+        Item::Last(end, at) => put_end(buf, to, end, at),
     }
 }

@@ -1,21 +1,22 @@
-// The whole text: counted first, then put to the front of the buffer.
-use crate::line::Said;
-use crate::line::put_said;
-use crate::said::said_at;
-use codes::Part;
-use codes::Refusal;
+// The whole text: counted first, then put to the front of the buffer. Promise: `Printed` in specs/Answers.antt, of `listingOf` and `outputOf` in
+// specs/Listing.antt.
+use crate::items::item_at;
+use crate::line::Item;
+use crate::line::put_item;
+use ground::Part;
+use ground::Refusal;
 ghost use mathlib.Core.Path.{_≡_};
 ghost use Prim.Native.Nat.{_+_, _≤_};
 ghost use lib.ListN.{length};
 ghost use Rattle.text.specs.Placed.{Placed};
-ghost use Rattle.listing.specs.Lines.{saidText};
-ghost use Rattle.listing.specs.Listing.{linesAt, listingOf, refusedLine, outputOf};
-ghost use Rattle.listing.specs.Answers.{textIn, listOf, madeOf, Made};
+ghost use Rattle.listing.specs.Answers.{textIn, listOf, printedOf, Printed};
+ghost use Rattle.listing.specs.Leaves.{itemText, linesAt};
+ghost use Rattle.listing.specs.Listing.{listingOf, refusedLine, outputOf};
 
 // An input above it is refused by 22.
 pub const INPUT_LIMIT: usize = 4096;
 
-// A buffer of this length always has room (output-made of proofs/AnswerLaws.antt).
+// A buffer of this length always has room (output-printed of proofs/AnswerLaws.antt).
 pub const LISTING_ROOM: usize = 237596;
 
 // The length of the text that a call made at the buffer's front.
@@ -36,25 +37,25 @@ impl Listed {
     }
 }
 
-// No line is longer than a scratch line (said-short of proofs/SaidLaws.antt), so that putting it there counts its bytes.
-fn said_len(said: Said) -> usize
-    requires { ⌜ length (saidText said) ≤ 80 ⌝ }
-    ensures { λ r. ⌜ r ≡ length (saidText said) ⌝ }
+// No line is longer than a scratch line (item-short of proofs/ItemLaws.antt), so that putting it there counts its bytes.
+fn item_len(item: Item) -> usize
+    requires { ⌜ length (itemText item) ≤ 80 ⌝ }
+    ensures { λ r. ⌜ r ≡ length (itemText item) ⌝ }
 {
     let mut scratch = [0u8; 80];
-    put_said(&mut scratch, 0, said)
+    put_item(&mut scratch, 0, item)
 }
 
 fn lines_len(input: &[u8]) -> usize
     requires { ⌜ length (now input) ≤ 4096 ⌝ }
-    ensures { λ r. ⌜ r ≡ length (linesAt 0 (now (input .entry))) ⌝ }
+    ensures { λ r. ⌜ r ≡ length (linesAt (now (input .entry)) 0) ⌝ }
 {
     let mut len = 0;
     let mut at = 0;
     loop {
-        let said = said_at(input, at);
-        len += said_len(said);
-        let Said::Telegram(line) = said else {
+        let item = item_at(input, at);
+        len += item_len(item);
+        let Item::Telegram(line) = item else {
             return len;
         };
         at += line.len;
@@ -63,14 +64,14 @@ fn lines_len(input: &[u8]) -> usize
 
 fn put_lines(buf: &mut [u8], to: usize, input: &[u8]) -> usize
     requires { ⌜ to ≤ length (now buf) + 1 ⌝ }
-    ensures { λ r. ⌜ Placed (now (buf .entry)) to (linesAt 0 (now (input .entry))) r (now (buf .exit)) ⌝ }
+    ensures { λ r. ⌜ Placed (now (buf .entry)) to (linesAt (now (input .entry)) 0) r (now (buf .exit)) ⌝ }
 {
     let mut next = to;
     let mut at = 0;
     loop {
-        let said = said_at(input, at);
-        next = put_said(buf, next, said);
-        let Said::Telegram(line) = said else {
+        let item = item_at(input, at);
+        next = put_item(buf, next, item);
+        let Item::Telegram(line) = item else {
             return next;
         };
         at += line.len;
@@ -95,7 +96,9 @@ fn put_listing(buf: &mut [u8], input: &[u8]) -> usize
 
 // The listing of an input of at most 4,096 bytes. The room is counted first: a refused call leaves the buffer as it came.
 pub fn list(input: &[u8], buf: &mut [u8]) -> Listed
-    ensures { λ r. ⌜ Made (listingOf (now (input .entry))) (now (buf .entry)) (listOf (now (input .entry)) (length (now (buf .entry)))) r (now (buf .exit)) ⌝ }
+    ensures { λ r. ⌜ Printed (listingOf (now (input .entry))) (now (buf .entry))
+        (listOf (now (input .entry)) (length (now (buf .entry))))
+        r (now (buf .exit)) ⌝ }
 {
     if input.len() > INPUT_LIMIT {
         return Listed::Refused(Refusal::InputTooLong);
@@ -107,7 +110,7 @@ pub fn list(input: &[u8], buf: &mut [u8]) -> Listed
 }
 
 fn put_refused(buf: &mut [u8]) -> Listed
-    ensures { λ r. ⌜ Made refusedLine (now (buf .entry)) (madeOf refusedLine (length (now (buf .entry)))) r (now (buf .exit)) ⌝ }
+    ensures { λ r. ⌜ Printed refusedLine (now (buf .entry)) (printedOf refusedLine (length (now (buf .entry)))) r (now (buf .exit)) ⌝ }
 {
     if buf.len() < 11 {
         return Listed::Refused(Refusal::NoRoom);
@@ -117,7 +120,9 @@ fn put_refused(buf: &mut [u8]) -> Listed
 
 // All that the lister prints for an input: its listing, or the one line of refusal 22.
 pub fn output(input: &[u8], buf: &mut [u8]) -> Listed
-    ensures { λ r. ⌜ Made (outputOf (now (input .entry))) (now (buf .entry)) (madeOf (outputOf (now (input .entry))) (length (now (buf .entry)))) r (now (buf .exit)) ⌝ }
+    ensures { λ r. ⌜ Printed (outputOf (now (input .entry))) (now (buf .entry))
+        (printedOf (outputOf (now (input .entry))) (length (now (buf .entry))))
+        r (now (buf .exit)) ⌝ }
 {
     if input.len() > INPUT_LIMIT {
         return put_refused(buf);

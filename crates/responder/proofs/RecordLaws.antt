@@ -1,24 +1,25 @@
 -- Laws of the maker, one for each case: 18 where the addresses are wrong, else a record that remembers nothing.
--- Assumes nothing.
 use mathlib.Core.Bool.{true, false}
 use mathlib.Core.Path.{_≡_}
-use Rattle.codes.specs.declared.address.Address.{Address}
 use Rattle.link_rules.proofs.RuleLaws.{linked-addresses}
-use Rattle.link_rules.specs.Rules.{wrongAddresses, Linked, noStation}
-use Rattle.responder.specs.Records.{blankOf, Made, madeOf}
+use Rattle.link_rules.specs.Rules.{wrongAddresses, Linked, noLink}
+use Rattle.link_rules.specs.declared.link.Link.{Link}
+use Rattle.link_telegrams.specs.Turns.{Made}
+use Rattle.responder.specs.declared.state.Responder.{Responder}
+use Rattle.responder.specs.Records.{blankOf, madeOf}
 
-abbrev pub notMade : Made
-notMade = record { number = 18; responder = blankOf noStation noStation }
+abbrev pub notMade : Made Responder
+notMade = record { number = 18; end = blankOf noLink }
 
-module _ (own peer : Address) where
-  pub addresses-refused : wrongAddresses (own .0) (peer .0) ≡ true → madeOf own peer ≡ notMade
+module _ (link : Link) where
+  pub addresses-refused : wrongAddresses link ≡ true → madeOf link ≡ notMade
   unfolding madeOf
   addresses-refused e = rw e
 
-  pub made : wrongAddresses (own .0) (peer .0) ≡ false → madeOf own peer ≡ record { number = 0; responder = blankOf own peer }
+  pub made : wrongAddresses link ≡ false → madeOf link ≡ record { number = 0; end = blankOf link }
   unfolding madeOf
   made e = rw e
 
   -- the last by the facts
-  pub made-blank : Linked (own .0) (peer .0) → madeOf own peer .responder ≡ blankOf own peer
-  made-blank l = rw (made (linked-addresses _ _ l))
+  pub made-blank : Linked link → madeOf link .end ≡ blankOf link
+  made-blank l = rw (made (linked-addresses _ l))

@@ -1,2 +1,5 @@
+-- Document 01's responder. Read `Calls`, then `Records`.
+-- what each call answers, and what it leaves
 pub mod Calls
+-- the record, and how one is made
 pub mod Records

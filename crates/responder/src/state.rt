@@ -1,15 +1,16 @@
+// The record of a responder, how one is made, and what may be asked of it. Promises: `specs/Records.antt`.
 ghost use mathlib.Core.Path.{_≡_};
-ghost use Rattle.link_rules.specs.Rules.{noStation};
+ghost use Rattle.link_rules.specs.Rules.{noLink};
 ghost use Rattle.responder.specs.Records.{blankOf, shownMade, madeOf};
-use codes::Address;
-use codes::Answer;
-use codes::Refusal;
+use ground::Address;
+use ground::Answer;
+use ground::Refusal;
+use link_rules::Link;
 use link_rules::wrong_addresses;
 use responder_row::Row;
 
 pub struct Responder {
-    pub(crate) own: Address,
-    pub(crate) peer: Address,
+    pub(crate) link: Link,
     pub(crate) row: Row,
 }
 
@@ -18,31 +19,35 @@ pub struct ResponderMade {
     pub responder: Responder,
 }
 
-pub(crate) fn blank(own: Address, peer: Address) -> Responder
-    ensures { λ r. ⌜ r ≡ blankOf own peer ⌝ }
+pub(crate) fn blank(link: Link) -> Responder
+    ensures { λ r. ⌜ r ≡ blankOf link ⌝ }
 {
     let row = Row::blank();
-    Responder { own, peer, row }
+    Responder { link, row }
 }
 
 // What stands beside a refusal to make a link: its addresses are no station's, so that it writes nothing and hears nothing.
 fn not_made() -> ResponderMade
-    ensures { λ r. ⌜ r ≡ record { answer = Answer.Refused Refusal.LinkAddresses; responder = blankOf noStation noStation } ⌝ }
+    ensures { λ r. ⌜ r ≡ record { answer = Answer.Refused Refusal.LinkAddresses; responder = blankOf noLink } ⌝ }
 {
     let answer = Answer::Refused(Refusal::LinkAddresses);
-    let responder = blank(Address(255), Address(255));
+    let none = Link {
+        own: Address(255),
+        peer: Address(255),
+    };
+    let responder = blank(none);
     ResponderMade { answer, responder }
 }
 
 impl Responder {
     // Refusal 18.
-    pub fn new(own: Address, peer: Address) -> ResponderMade
-        ensures { λ r. ⌜ shownMade r ≡ madeOf own peer ⌝ }
+    pub fn new(link: Link) -> ResponderMade
+        ensures { λ r. ⌜ shownMade r ≡ madeOf link ⌝ }
     {
-        if wrong_addresses(own, peer) {
+        if wrong_addresses(link) {
             return not_made();
         }
-        let responder = blank(own, peer);
+        let responder = blank(link);
         ResponderMade {
             answer: Answer::Done,
             responder,
@@ -50,22 +55,24 @@ impl Responder {
     }
 
     // The record of these parts, each as it is.
-    pub fn from_parts(own: Address, peer: Address, row: Row) -> Responder
-        ensures { λ r. ⌜ r ≡ record { own = own; peer = peer; row = row } ⌝ }
+    pub fn from_parts(link: Link, row: Row) -> Responder
+        ensures { λ r. ⌜ r ≡ record { link = link; row = row } ⌝ }
     {
-        Responder { own, peer, row }
+        Responder { link, row }
     }
 
     pub fn own(self) -> Address
-        ensures { λ r. ⌜ r ≡ self .own ⌝ }
+        ensures { λ r. ⌜ r ≡ self .link .own ⌝ }
     {
-        self.own
+        let link = self.link;
+        link.own
     }
 
     pub fn peer(self) -> Address
-        ensures { λ r. ⌜ r ≡ self .peer ⌝ }
+        ensures { λ r. ⌜ r ≡ self .link .peer ⌝ }
     {
-        self.peer
+        let link = self.link;
+        link.peer
     }
 
     // What it remembers of its initiator.

@@ -1,5 +1,4 @@
 -- Laws of a row and of the reply that it holds.
--- Assumes nothing.
 use Prim.Native.Nat.{ℕ, zero, suc, _<_, _≤_}
 use mathlib.Core.Bool.{true, false}
 use mathlib.Core.Path.{_≡_, refl, _∙_, sym, ap}
@@ -8,11 +7,11 @@ use native.Mathlib.Omega.{arith}
 use lib.ListN.{length, take, length-append, take-append-drop}
 use lib.Seq.{length-take-le, take-all, take-append-seam}
 use borrow.Author.Tests.{lt-ltb, le-ltb}
-use Rattle.codes.specs.Refusals.{gives, refused, numberOf}
-use Rattle.codes.specs.declared.refusal.Answer.the-variants.{Refused}
-use Rattle.codes.specs.declared.refusal.Refusal.{Refusal}
-use Rattle.codes.specs.declared.part.Part.{Part}
-use Rattle.link_rules.specs.Rules.{wrongLength}
+use Rattle.ground.specs.Refusals.{gives, refused, numberOf}
+use Rattle.ground.specs.declared.refusal.Answer.the-variants.{Refused}
+use Rattle.ground.specs.declared.refusal.Refusal.{Refusal}
+use Rattle.ground.specs.declared.part.Part.{Part}
+use Rattle.link_rules.specs.Rules.{longest, wrongLength}
 use Rattle.link_telegrams.specs.declared.headers.Bit.{Bit}
 use Rattle.responder_row.specs.Rows.{heldOf, dropping, holding, ignoring, againOn, otherOn, answersIn, rowAnswers, rowAfter, shownAnswered}
 use Rattle.responder_row.specs.declared.row.Row.{Row}
@@ -48,10 +47,10 @@ module _ (row : Row) (state : RowState) (p : List ℕ) (e : row .state ≡ state
 
 -- The answer to an order, by its length.
 module _ (b : Bit) (row : Row) (p : List ℕ) where
-  pub answer-long : 246 < length p → answersIn (Owes b) row p ≡ refused 9
+  pub answer-long : longest < length p → answersIn (Owes b) row p ≡ refused 9
   answer-long h = rw (lt-ltb _ _ h)
 
-  pub answer-fits : length p ≤ 246 → answersIn (Owes b) row p ≡ gives (holding b p row)
+  pub answer-fits : length p ≤ longest → answersIn (Owes b) row p ≡ gives (holding b p row)
   answer-fits h = rw (le-ltb _ _ h)
 
 -- The first n bytes, counted and taken again.

@@ -1,16 +1,16 @@
 -- Document 01, "Responder": what it remembers of one initiator, and what a heard telegram, an answer and a restart do to that.
--- Assumes nothing.
+-- Read `rowHears`, `rowAnswers`.
 use Prim.Native.Nat.{ℕ}
 use mathlib.Core.Bool.{Bool, true, false}
 use mathlib.Core.List.{List, _++_}
 use lib.Dec.{ltb}
 use lib.ListN.{length, take, drop, replicate}
-use Rattle.codes.specs.Pick.{if}
-use Rattle.codes.specs.Refusals.{Outcome, gives, refused, numberOf}
-use Rattle.codes.specs.declared.part.Part.{Part}
-use Rattle.codes.specs.declared.refusal.Answer.{Answer}
-use Rattle.codes.specs.declared.refusal.Answer.the-variants as answer
-use Rattle.link_rules.specs.Rules.{wrongLength}
+use Rattle.ground.specs.Pick.{if}
+use Rattle.ground.specs.Refusals.{OrRefused, gives, refused, numberOf}
+use Rattle.ground.specs.declared.part.Part.{Part}
+use Rattle.ground.specs.declared.refusal.Answer.{Answer}
+use Rattle.ground.specs.declared.refusal.Answer.the-variants as answer
+use Rattle.link_rules.specs.Rules.{longest, wrongLength}
 use Rattle.link_telegrams.specs.declared.headers.Bit.{Bit}
 use Rattle.link_telegrams.specs.declared.headers.Bit.the-variants.{Low, High}
 use Rattle.link_telegrams.specs.declared.heard.RequestHeard.{RequestHeard}
@@ -26,7 +26,7 @@ use Rattle.responder_row.specs.declared.row.StoredBit.the-variants as st
 
 -- "Restart forgets all": a row that remembers nothing
 abbrev pub blankRow : Row
-blankRow = record { state = Blank; held = replicate 246 0; len = 0 }
+blankRow = record { state = Blank; held = replicate longest 0; len = 0 }
 
 -- the held reply
 abbrev pub heldOf : Row → List ℕ
@@ -101,24 +101,24 @@ rowHears (heard.Order b q) row = orderOn (storedBit (row .state)) b q row
 rowHears heard.Nothing row = ignoring row
 
 -- "the application then answers once, and that answer is held"; 21: "answer when none is owed", 9: "a link reply above 246 bytes"
-abbrev pub answersIn : RowState → Row → List ℕ → Outcome Row
+abbrev pub answersIn : RowState → Row → List ℕ → OrRefused Row
 answersIn Blank row p = refused 21
 answersIn Opened row p = refused 21
-answersIn (Owes b) row p = if (ltb 246 (length p)) (refused 9) (gives (holding b p row))
+answersIn (Owes b) row p = if (ltb longest (length p)) (refused 9) (gives (holding b p row))
 answersIn (Holds b) row p = refused 21
 
-unfoldable pub rowAnswers : Row → List ℕ → Outcome Row
+unfoldable pub rowAnswers : Row → List ℕ → OrRefused Row
 rowAnswers row p = answersIn (row .state) row p
 
 -- the row that comes back: in a refused call "records … stay"
-abbrev pub rowAfter : Outcome Row → Row → Row
+abbrev pub rowAfter : OrRefused Row → Row → Row
 rowAfter (gives next) row = next
 rowAfter (refused n) row = row
 
 -- what an answer to a row gives, with document 01's number
-abbrev pub shownIn : Answer → Row → Outcome Row
+abbrev pub shownIn : Answer → Row → OrRefused Row
 shownIn answer.Done row = gives row
 shownIn (answer.Refused refusal) row = refused (numberOf refusal)
 
-abbrev pub shownAnswered : RowAnswered → Outcome Row
+abbrev pub shownAnswered : RowAnswered → OrRefused Row
 shownAnswered a = shownIn (a .answer) (a .row)

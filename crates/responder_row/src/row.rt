@@ -1,11 +1,14 @@
+// What a responder remembers of one initiator: a row, its questions, what is heard and what is answered. Promises: `specs/Rows.antt`.
 ghost use mathlib.Core.Path.{_≡_};
 ghost use Prim.Native.Nat.{_≤_};
 ghost use lib.ListN.{length};
+ghost use Rattle.link_rules.specs.Rules.{longest};
 ghost use Rattle.responder_row.specs.Rows.{blankRow, storedBit, owesReply, holdsReply, heldOf, sameBit, inState, holding, ignoring, againOn, otherOn, orderOn, rowHears, shownAnswered, rowAnswers, rowAfter};
-use buffers::copy_to_front;
-use codes::Answer;
-use codes::Part;
-use codes::Refusal;
+use ground::Answer;
+use ground::Part;
+use ground::Refusal;
+use ground::copy_to_front;
+use link_rules::LONGEST;
 use link_rules::wrong_length;
 use link_telegrams::Bit;
 use link_telegrams::RequestHeard;
@@ -133,7 +136,7 @@ impl Row {
         ensures { λ r. ⌜ r ≡ length (heldOf self) ⌝ }
     {
         let len = self.len;
-        if len <= 246 { len } else { 246 }
+        if len <= LONGEST { len } else { LONGEST }
     }
 
     // The held reply is the first `held_len` bytes of this.
@@ -152,7 +155,7 @@ impl Row {
     }
 
     fn hold(self, bit: Bit, reply: &[u8]) -> Row
-        requires { ⌜ length (now reply) ≤ 246 ⌝ }
+        requires { ⌜ length (now reply) ≤ longest ⌝ }
         ensures { λ r. ⌜ r ≡ holding bit (now (reply .entry)) self ⌝ }
     {
         let mut held = self.held;
@@ -249,7 +252,7 @@ impl Row {
             RowState::Blank => self.refuse(Refusal::NoReplyOwed),
             RowState::Opened => self.refuse(Refusal::NoReplyOwed),
             RowState::Owes(bit) => {
-                if 246 < reply.len() {
+                if LONGEST < reply.len() {
                     return self.refuse(Refusal::TooLong);
                 }
                 let row = self.hold(bit, reply);

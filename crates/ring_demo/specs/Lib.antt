@@ -1,1 +1,2 @@
+-- the list that the program plays
 pub mod Played

@@ -1,5 +1,4 @@
--- The list that the program plays: document 01's first sample of the station list.
--- Assumes nothing.
+-- The list that the program plays: document 01's first sample of the station list, `played` up to discovery and `playedOn` up to Valid.
 use mathlib.Core.List.{[], _∷_}
 use Rattle.token_ring.specs.Rules.{made}
 use Rattle.token_ring.specs.Passes.{_to_, after}

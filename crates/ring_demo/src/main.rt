@@ -1,6 +1,6 @@
 // A caller of the station list, with a list in a local of its own: document 01's first sample, played, checked and printed. What is checked
 // is proved from the promises of the calls alone.
-use codes::Address;
+use ground::Address;
 use libc::STDOUT_FILENO;
 use token_ring::Found;
 use token_ring::TokenRing;

@@ -1,7 +1,6 @@
 -- A thin call that may refuse: `let changed = (*ring).METHOD(address); *ring = changed.ring; changed.answer`. One theorem, over the method's key
 -- and the list that it gives, for every call of this shape: a walk of its MIR, by hand. The borrow is opened, the list that stands there is
 -- copied and passed to the method, the list that comes back is stored in its place, the borrow is closed, and the answer is returned.
--- Assumes nothing.
 use mathlib.Core.Path.{refl, ap}
 use Prim.Native.Nat.{ℕ}
 use mathlib.Core.List.{[], _∷_, List}
@@ -35,11 +34,11 @@ use denote.Triple.Clauses.{Clauses, closing, ensured, lasts}
 use denote.Triple.Entry.{onEntry}
 use denote.Triple.Spec.{Meets, tripleOf}
 use denote.Triple.Walked.{says, Stays, stay-none, stay-ref, walkOf, AllGo, goes-none, goes-ref, Walks, ends-at, walked, walk-meets}
-use Rattle.codes.specs.declared.address.Address.{Address}
-use Rattle.codes.proofs.address.Address as D
-use Rattle.codes.proofs.address.Address.Laws as D′
-use Rattle.codes.proofs.refusal.Answer as N
-use Rattle.codes.proofs.refusal.Answer.Laws as N′
+use Rattle.ground.specs.declared.address.Address.{Address}
+use Rattle.ground.proofs.address.Address as D
+use Rattle.ground.proofs.address.Address.Laws as D′
+use Rattle.ground.proofs.refusal.Answer as N
+use Rattle.ground.proofs.refusal.Answer.Laws as N′
 use Rattle.token_ring.specs.declared.ring.Changed.{Changed}
 use Rattle.token_ring.specs.declared.ring.TokenRing.{TokenRing}
 use Rattle.token_ring.specs.Promises.{Gives}

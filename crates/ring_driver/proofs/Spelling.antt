@@ -1,14 +1,13 @@
 -- The machine values of a list, an address and an answer, spelled by their types' laws, so that the array and the enums in them never appear.
--- Assumes nothing.
 use mir.Val.{Val}
 use denote.Struct.Laws as LL
 use denote.Enum.Laws as LE
-use Rattle.codes.specs.declared.address.Address.{Address}
-use Rattle.codes.specs.declared.refusal.Answer.{Answer}
-use Rattle.codes.proofs.address.Address as D
-use Rattle.codes.proofs.address.Address.Laws as D′
-use Rattle.codes.proofs.refusal.Answer as N
-use Rattle.codes.proofs.refusal.Answer.Laws as N′
+use Rattle.ground.specs.declared.address.Address.{Address}
+use Rattle.ground.specs.declared.refusal.Answer.{Answer}
+use Rattle.ground.proofs.address.Address as D
+use Rattle.ground.proofs.address.Address.Laws as D′
+use Rattle.ground.proofs.refusal.Answer as N
+use Rattle.ground.proofs.refusal.Answer.Laws as N′
 use Rattle.token_ring.specs.declared.ring.TokenRing.{TokenRing}
 use Rattle.token_ring.proofs.ring.TokenRing as T
 use Rattle.token_ring.proofs.ring.TokenRing.Laws as T′

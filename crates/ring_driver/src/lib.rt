@@ -1,7 +1,7 @@
 // The bus driver lends its one station list and finds it changed: thin calls, each of which moves the list through the by-value method of
-// `token_ring`.
-use codes::Address;
-use codes::Answer;
+// `token_ring`. Promises: `witnessed`, `claimed`, `nextSet` and `removed` in `token_ring`'s specs/Rules.antt, as of the methods.
+use ground::Address;
+use ground::Answer;
 use token_ring::TokenRing;
 ghost use mathlib.Core.Path.{_≡_};
 ghost use Rattle.token_ring.specs.Promises.{Gives};

@@ -10,8 +10,8 @@ use crate::rounds::put_rounds;
 use crate::start::put_parameters;
 use crate::start::put_ring;
 use crate::start::put_stations;
-use crate::telegrams::front;
 use libc::STDOUT_FILENO;
+use line_text::bytes::front;
 
 // The capture at the front of the buffer; its length.
 fn put_segment(out: &mut [u8]) -> usize {

@@ -8,9 +8,10 @@ use crate::telegrams::put_service;
 use crate::telegrams::put_status;
 use crate::telegrams::put_status_request;
 use crate::telegrams::put_token;
-use codes::Address;
 use codes::FrameCountBit;
 use codes::ResponseState;
+use ground::Address;
+use link_rules::Link;
 use link_telegrams::Bit;
 use link_telegrams::ok_header;
 use link_telegrams::opening_header;
@@ -79,17 +80,25 @@ fn put_broken_line(out: &mut [u8], to: usize) -> usize {
     put_confirmation(out, at)
 }
 
+// The link between the head end, station 2, and the cabinet, station 5, as one of them has it.
+fn link_of(own: u8, peer: u8) -> Link {
+    Link {
+        own: Address(own),
+        peer: Address(peer),
+    }
+}
+
 // The head end opens its link to the cabinet.
 fn put_opening(out: &mut [u8], to: usize) -> usize {
-    let at = put_data(out, to, opening_header(Address(2), Address(5)), b"");
-    put_data(out, at, ok_header(Address(5), Address(2)), b"")
+    let at = put_data(out, to, opening_header(link_of(2, 5)), b"");
+    put_data(out, at, ok_header(link_of(5, 2)), b"")
 }
 
 // It sends an order, and the cabinet replies.
 fn put_order(out: &mut [u8], to: usize) -> usize {
-    let order = order_header(Address(2), Address(5), Bit::Low);
+    let order = order_header(link_of(2, 5), Bit::Low);
     let at = put_data(out, to, order, b"open-17");
-    put_data(out, at, reply_header(Address(5), Address(2)), b"opened-17")
+    put_data(out, at, reply_header(link_of(5, 2)), b"opened-17")
 }
 
 pub(crate) fn put_events(out: &mut [u8], to: usize) -> usize {

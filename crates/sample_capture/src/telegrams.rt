@@ -1,12 +1,12 @@
 // One telegram each, laid down at a place; the answer is the place behind it. Stations are named sender first.
-use codes::Address;
 use codes::FrameCountBit;
 use codes::FunctionCode;
-use codes::Part;
 use codes::RequestType;
 use codes::ResponseState;
 use codes::ResponseStatus;
-use codes::Sap;
+use ground::Address;
+use ground::Sap;
+use line_text::bytes::front;
 use telegram::DataTelegramHeader;
 use telegram::SapOption;
 use telegram_tx::TelegramTxResult;
@@ -15,12 +15,6 @@ use telegram_tx::send_fdl_status_request;
 use telegram_tx::send_fdl_status_response;
 use telegram_tx::send_short_confirmation;
 use telegram_tx::send_token_telegram;
-
-// The first bytes of a buffer.
-pub(crate) fn front(bytes: &[u8], len: usize) -> &[u8] {
-    let part = Part { start: 0, len };
-    part.show(bytes)
-}
 
 // What the writer wrote. It refuses none of the telegrams here.
 fn put_written(out: &mut [u8], to: usize, result: TelegramTxResult, written: &[u8]) -> usize {
@@ -89,10 +83,7 @@ fn sap_header(sa: u8, da: u8, ssap: u8, dsap: u8, fc: FunctionCode) -> DataTeleg
 }
 
 fn data_low() -> FunctionCode {
-    FunctionCode::Response {
-        state: ResponseState::Slave,
-        status: ResponseStatus::DataLow,
-    }
+    FunctionCode::new_response(ResponseState::Slave, ResponseStatus::DataLow)
 }
 
 // Cyclic data: outputs to a slave, and its inputs in reply.

@@ -1,5 +1,5 @@
--- Laws of a line `name=number`: each answer of `lineAt` by its tests, and that it reads just the lines that are written.
--- Assumes nothing.
+-- Laws of a line `name=number`: each answer of `lineAt` by its tests, and that it reads just the lines that are written, `line-written` and
+-- `line-read`.
 use mathlib.Core.Path.{_≡_, refl, sym, ap, _∙_}
 use mathlib.Core.Bool.{Bool, true, false}
 use mathlib.Core.List.{List, [], _++_, append-assoc}
@@ -7,7 +7,7 @@ use Prim.Native.Nat.{ℕ, _+_, _≤_}
 use native.Mathlib.Omega.{arith}
 use lib.ListN.{length, drop, length-append}
 use lib.Seq.{drop-drop, drop-append-seam}
-use Rattle.codes.specs.Pick.{if}
+use Rattle.ground.specs.Pick.{if}
 use Rattle.text.specs.declared.decimal.Number.{Number}
 use Rattle.text.specs.declared.decimal.Number.the-variants.{Is, Nothing}
 use Rattle.text.specs.Begins.{begins}
@@ -43,7 +43,10 @@ module _ (name text : List ℕ) (at : ℕ) where
 
 -- ---- the name, the number and the line feed, placed one behind the other, are the line
 
-pub line-placed : {b₀ b₁ b₂ b₃ name : List ℕ} {at n₁ n₂ n₃ : ℕ} (n : ℕ) → Placed b₀ at name n₁ b₁ → Placed b₁ n₁ (decimalOf n) n₂ b₂ → Placed b₂ n₂ lineFeed n₃ b₃
+pub line-placed : {b₀ b₁ b₂ b₃ name : List ℕ} {at n₁ n₂ n₃ : ℕ} (n : ℕ)
+    → Placed b₀ at name n₁ b₁
+    → Placed b₁ n₁ (decimalOf n) n₂ b₂
+    → Placed b₂ n₂ lineFeed n₃ b₃
     → Placed b₀ at (lineOf name n) n₃ b₃
 unfolding lineOf
 line-placed n p q r = then (then p q) r
@@ -99,7 +102,8 @@ unfolding lineAt lineOf
 line-read name text at n next e = go (begins name (drop at text)) refl (numberAt text (at + length name) 255) refl e
   where
     ended : (m k : ℕ) → begins name (drop at text) ≡ true → NumberRead text (at + length name) 255 m k → (t : Bool) → begins lineFeed (drop k text) ≡ t
-        → if t (line.Number m (k + 1)) line.Nothing ≡ line.Number n next → LineRead name text at n next
+        → if t (line.Number m (k + 1)) line.Nothing ≡ line.Number n next
+        → LineRead name text at n next
     ended m k b r true f e =
         let value : m ≡ n = cc in
         let place : k + 1 ≡ next = cc in
@@ -107,7 +111,9 @@ line-read name text at n next e = go (begins name (drop at text)) refl (numberAt
           within = rw value at (r .within);
           stands = rw (← value, ← place) (
               begins-split name (drop at text) b
-              ∙ ap (λ (l : List ℕ). name ++ l) (drop-drop (length name) at text ∙ r .written ∙ ap (λ (l : List ℕ). decimalOf m ++ l) (begins-split lineFeed (drop k text) f ∙ ap (λ (l : List ℕ). lineFeed ++ l) (drop-drop 1 k text)))
+              ∙ ap (λ (l : List ℕ). name ++ l)
+              (drop-drop (length name) at text ∙ r .written
+              ∙ ap (λ (l : List ℕ). decimalOf m ++ l) (begins-split lineFeed (drop k text) f ∙ ap (λ (l : List ℕ). lineFeed ++ l) (drop-drop 1 k text)))
               ∙ simp append-assoc
               );
           place = rw (← value, ← place, r .place) (simp length-append (omega arith));
@@ -115,7 +121,8 @@ line-read name text at n next e = go (begins name (drop at text)) refl (numberAt
     ended m k b r false f e = let z : _≡_ {A = ℕ} 0 1 = cc in absurd (omega arith)
 
     go : (s : Bool) → begins name (drop at text) ≡ s → (a : Number) → numberAt text (at + length name) 255 ≡ a
-        → if s (endedOf text a) line.Nothing ≡ line.Number n next → LineRead name text at n next
+        → if s (endedOf text a) line.Nothing ≡ line.Number n next
+        → LineRead name text at n next
     go true b (Is m k) p e = ended m k b (number-read text (at + length name) 255 m k p) (begins lineFeed (drop k text)) refl e
     go true b Nothing p e = let z : _≡_ {A = ℕ} 0 1 = cc in absurd (omega arith)
     go false b a p e = let z : _≡_ {A = ℕ} 0 1 = cc in absurd (omega arith)

@@ -1,5 +1,4 @@
 -- The settings text by example: what reading and writing answer, computed on the definitions.
--- Assumes nothing.
 use mathlib.Core.Path.{_≡_, refl}
 use Rattle.text.specs.Begins.{begins}
 use Rattle.text.specs.Decimal.{digits, decimalOf, valueFrom, isDigit, digitsIn, same, isDecimal, numberAt}

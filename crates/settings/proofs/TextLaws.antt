@@ -1,6 +1,6 @@
--- The settings text, read and written: a text is read just where it is the picture of settings that a link can have.
+-- The settings text, read and written: a text is read just where it is the picture of settings that a link can have (`reads-settings`,
+-- `reads-no-form`), and what was written is read back (`written-then-read`, `read-as-written`).
 -- Nobody has to believe how it is read: what `readOf` answers is said here by the picture of the text alone.
--- Assumes nothing.
 use mathlib.Core.Logic.{_↔_}
 use mathlib.Core.Path.{_≡_, refl, sym, ap, _∙_}
 use mathlib.Core.Bool.{Bool, true, false}
@@ -8,10 +8,10 @@ use mathlib.Core.List.{List, [], _++_, append-assoc, append-nil}
 use Prim.Native.Nat.{ℕ, _+_, _≤_}
 use native.Mathlib.Omega.{arith}
 use borrow.Author.Tests.{eqb-true, leb-true, le-leb}
-use lib.Dec.{eqb, leb, ltb}
+use lib.Dec.{eqb, leb}
 use lib.ListN.{length, take, drop, length-append}
 use lib.Seq.{drop-append-seam, drop-length}
-use Rattle.codes.specs.Pick.{if}
+use Rattle.ground.specs.Pick.{if}
 use Rattle.text.specs.Placed.{laid}
 use Rattle.text.proofs.PlacedLaws.{laid-front, laid-whole}
 use Rattle.settings.specs.declared.line.Line.{Line}
@@ -37,7 +37,9 @@ pictured-form text own peer tries k = three-lines text first second third end
   where
     first : lineAt own= text 0 ≡ line.Number own (length (lineOf own= own))
     first =
-        line-written own= text 0 own (lineOf peer= peer ++ lineOf tries= tries) (k .picture ∙ append-assoc (lineOf own= own) (lineOf peer= peer) (lineOf tries= tries)) (k .own-byte)
+        line-written own= text 0 own (lineOf peer= peer ++ lineOf tries= tries)
+        (k .picture ∙ append-assoc (lineOf own= own) (lineOf peer= peer) (lineOf tries= tries))
+        (k .own-byte)
         ∙ ap (λ (n : ℕ). line.Number own n) (omega arith)
 
     behind-first : drop (length (lineOf own= own)) text ≡ lineOf peer= peer ++ lineOf tries= tries
@@ -59,8 +61,12 @@ pictured-form text own peer tries k = three-lines text first second third end
     end = rw (k .picture, length-append, length-append)
 
 -- and a text of the right form, with these numbers, is such a text
-lines-pictured : {text : List ℕ} {own peer tries at₁ at₂ end : ℕ} → LineRead own= text 0 own at₁ → LineRead peer= text at₁ peer at₂ → LineRead tries= text at₂ tries end
-    → end ≡ length text → Pictured text own peer tries
+lines-pictured : {text : List ℕ} {own peer tries at₁ at₂ end : ℕ}
+    → LineRead own= text 0 own at₁
+    → LineRead peer= text at₁ peer at₂
+    → LineRead tries= text at₂ tries end
+    → end ≡ length text
+    → Pictured text own peer tries
 unfolding textOf
 lines-pictured {text} {own} {peer} {tries} a b c e = record {
   picture =
@@ -78,7 +84,8 @@ unfolding formOf
 form-pictured text own peer tries e = fromOwn (lineAt own= text 0) refl e
   where
     atEnd : (o p t at₁ at₂ end : ℕ) → LineRead own= text 0 o at₁ → LineRead peer= text at₁ p at₂ → LineRead tries= text at₂ t end
-        → (s : Bool) → eqb end (length text) ≡ s → if s (Numbers o p t) Nothing ≡ Numbers own peer tries → Pictured text own peer tries
+        → (s : Bool) → eqb end (length text) ≡ s → if s (Numbers o p t) Nothing ≡ Numbers own peer tries
+        → Pictured text own peer tries
     atEnd o p t at₁ at₂ end a b c true f e =
         let o-is : o ≡ own = cc in
         let p-is : p ≡ peer = cc in
@@ -87,11 +94,14 @@ form-pictured text own peer tries e = fromOwn (lineAt own= text 0) refl e
     atEnd o p t at₁ at₂ end a b c false f e = let z : _≡_ {A = ℕ} 0 1 = cc in absurd (omega arith)
 
     fromTries : (o p at₁ at₂ : ℕ) → LineRead own= text 0 o at₁ → LineRead peer= text at₁ p at₂ → (l : Line) → lineAt tries= text at₂ ≡ l
-        → afterTries text o p l ≡ Numbers own peer tries → Pictured text own peer tries
+        → afterTries text o p l ≡ Numbers own peer tries
+        → Pictured text own peer tries
     fromTries o p at₁ at₂ a b (line.Number t end) f e = atEnd o p t at₁ at₂ end a b (line-read tries= text at₂ t end f) (eqb end (length text)) refl e
     fromTries o p at₁ at₂ a b line.Nothing f e = let z : _≡_ {A = ℕ} 0 1 = cc in absurd (omega arith)
 
-    fromPeer : (o at₁ : ℕ) → LineRead own= text 0 o at₁ → (l : Line) → lineAt peer= text at₁ ≡ l → afterPeer text o l ≡ Numbers own peer tries → Pictured text own peer tries
+    fromPeer : (o at₁ : ℕ) → LineRead own= text 0 o at₁ → (l : Line) → lineAt peer= text at₁ ≡ l
+        → afterPeer text o l ≡ Numbers own peer tries
+        → Pictured text own peer tries
     fromPeer o at₁ a (line.Number p at₂) f e = fromTries o p at₁ at₂ a (line-read peer= text at₁ p at₂ f) (lineAt tries= text at₂) refl e
     fromPeer o at₁ a line.Nothing f e = let z : _≡_ {A = ℕ} 0 1 = cc in absurd (omega arith)
 
@@ -111,15 +121,18 @@ allowed-pictured own peer tries k = record {
   picture = refl;
   own-byte = omega (arith, k .addresses .own-small);
   peer-byte = omega (arith, k .addresses .peer-small);
-  tries-byte = omega (arith, k .permitted .to-eight);
+  tries-byte = omega (arith, k .permitted .to-most);
 }
 
 -- settings are read just from the picture of settings that a link can have
-pub reads-settings : (text : List ℕ) (own peer tries : ℕ) → readOf text ≡ settings own peer tries ↔ Allowed own peer tries × (text ≡ textOf own peer tries)
+pub reads-settings : (text : List ℕ) (own peer tries : ℕ)
+    → readOf text ≡ settings own peer tries
+    ↔ Allowed own peer tries × (text ≡ textOf own peer tries)
 unfolding readOf checkedOf
 reads-settings text own peer tries = (forth (formOf text) refl, back)
   where
-    ruled : (o p t : ℕ) → formOf text ≡ Numbers o p t → (s : Bool) → eqb (ruleOf o p t) 0 ≡ s → if s (settings o p t) (refused (ruleOf o p t)) ≡ settings own peer tries
+    ruled : (o p t : ℕ) → formOf text ≡ Numbers o p t → (s : Bool) → eqb (ruleOf o p t) 0 ≡ s
+        → if s (settings o p t) (refused (ruleOf o p t)) ≡ settings own peer tries
         → Allowed own peer tries × (text ≡ textOf own peer tries)
     ruled o p t f true r e =
         let o-is : o ≡ own = cc in
@@ -139,7 +152,9 @@ reads-settings text own peer tries = (forth (formOf text) refl, back)
         ∙ rw (allowed-rule own peer tries (k .0))
 
 -- 20 is the answer just where the text is no picture of three numbers from 0 to 255
-pub reads-no-form : (text : List ℕ) → readOf text ≡ refused 20 ↔ ((own peer tries : ℕ) → Pictured text own peer tries → ⊥)
+pub reads-no-form : (text : List ℕ)
+    → readOf text ≡ refused 20
+    ↔ ((own peer tries : ℕ) → Pictured text own peer tries → ⊥)
 unfolding readOf checkedOf
 reads-no-form text = (λ e own peer tries k. other own peer tries k e, λ none. back none (formOf text) refl)
   where
@@ -178,7 +193,8 @@ written-by own peer tries room len e = go (eqb (ruleOf own peer tries) 0) refl (
     go false p t q e = let z : _≡_ {A = ℕ} 0 1 = cc in absurd (omega arith)
 
 -- what a call wrote is read as the settings that it was given
-pub written-then-read : (own peer tries : ℕ) (before after : List ℕ) (len : ℕ) → Wrote own peer tries before (answer.Written len) after
+pub written-then-read : (own peer tries : ℕ) (before after : List ℕ) (len : ℕ)
+    → Wrote own peer tries before (answer.Written len) after
     → readOf (take len after) ≡ settings own peer tries
 written-then-read own peer tries before after len w =
     let wrote = sym (w .result) in

@@ -1,9 +1,9 @@
--- Document 01, "Settings text": a line `name=number` ended by a line feed, "decimal 0 to 255 without leading zeros".
--- Assumes nothing.
+-- Document 01, "Settings text": a line `name=number` ended by a line feed, "decimal 0 to 255 without leading zeros". Read `lineOf`, a line as it is
+-- written, and `lineAt`, the line that is read at a place.
 use mathlib.Core.List.{List, _++_}
 use Prim.Native.Nat.{ℕ, _+_}
 use lib.ListN.{length, drop}
-use Rattle.codes.specs.Pick.{if}
+use Rattle.ground.specs.Pick.{if}
 use Rattle.text.specs.declared.decimal.Number.{Number}
 use Rattle.text.specs.declared.decimal.Number.the-variants.{Is, Nothing}
 use Rattle.text.specs.Begins.{begins}

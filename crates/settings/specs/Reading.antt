@@ -1,11 +1,10 @@
--- Document 01, "Orders: … Settings 20, 18, 19": what reading a settings text answers.
--- Assumes nothing.
+-- Document 01, "Orders: … Settings 20, 18, 19": what reading a settings text answers. Read `readOf`, from below.
 use mathlib.Core.List.{List}
 use Prim.Native.Nat.{ℕ}
 use lib.Dec.{eqb}
 use lib.ListN.{length}
-use Rattle.codes.specs.Pick.{if}
-use Rattle.codes.specs.Refusals.{numberOf}
+use Rattle.ground.specs.Pick.{if}
+use Rattle.ground.specs.Refusals.{numberOf}
 use Rattle.settings.specs.declared.line.Line.{Line}
 use Rattle.settings.specs.declared.line.Line.the-variants as line
 use Rattle.settings.specs.declared.settings.Form.{Form}

@@ -1,5 +1,5 @@
 -- Document 01, "Settings text: `own=2`, `peer=5`, `tries=2`, in this order, each ended by a line feed; …; nothing else."
--- Assumes nothing.
+-- Read `textOf`.
 use mathlib.Core.List.{List, _++_}
 use mathlib.Core.Path.{_≡_}
 use Prim.Native.Nat.{ℕ, _≤_}

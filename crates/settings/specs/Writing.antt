@@ -1,12 +1,11 @@
--- What writing the settings text answers, and what the buffer holds afterwards. Refusals in the order 18, 19, 10.
--- Assumes nothing.
+-- What writing the settings text answers, and what the buffer holds afterwards. Refusals in the order 18, 19, 10. Read `Wrote`, the call's promise.
 use mathlib.Core.Path.{_≡_}
 use mathlib.Core.List.{List}
 use Prim.Native.Nat.{ℕ}
 use lib.Dec.{eqb, leb}
 use lib.ListN.{length}
-use Rattle.codes.specs.Pick.{if}
-use Rattle.codes.specs.Refusals.{numberOf}
+use Rattle.ground.specs.Pick.{if}
+use Rattle.ground.specs.Refusals.{numberOf}
 use Rattle.text.specs.Placed.{laid}
 use Rattle.settings.specs.declared.settings.SettingsWritten.{SettingsWritten}
 use Rattle.settings.specs.declared.settings.SettingsWritten.the-variants.{Written, Refused}

@@ -1,4 +1,4 @@
-// A line of the text, `name=number` and a line feed.
+// A line of the text, `name=number` and a line feed. Promises: `lineAt` and `lineOf` in specs/Lines.antt.
 use text::Number;
 ghost use mathlib.Core.Path.{_≡_};
 ghost use Rattle.settings.specs.Lines.{lineOf, lineAt};
@@ -34,6 +34,7 @@ pub(crate) fn get_line(text: &[u8], at: usize, name: &[u8]) -> Line
     }
 }
 
+// Puts the line of a number whose name, with its `=`, is given.
 pub(crate) fn put_line(buf: &mut [u8], at: usize, name: &[u8], value: u8) -> usize
     ensures { λ r. ⌜ Placed (now (buf .entry)) at (lineOf (now (name .entry)) value) r (now (buf .exit)) ⌝ }
 {

@@ -1,17 +1,18 @@
-// The settings of a link, read from their text and written as it.
+// The settings of a link, read from their text and written as it. Promises: `readOf` in specs/Reading.antt, `Wrote` in specs/Writing.antt.
 use crate::line::Line;
 use crate::line::get_line;
 use crate::line::put_line;
-use codes::Address;
-use codes::Answer;
-use codes::Refusal;
+use ground::Address;
+use ground::Answer;
+use ground::Refusal;
+use link_rules::Link;
 use link_rules::wrong_addresses;
 use link_rules::wrong_tries;
 ghost use mathlib.Core.Path.{_≡_};
 ghost use lib.ListN.{length};
 ghost use Rattle.text.specs.Placed.{Placed};
 ghost use Rattle.settings.specs.Text.{textOf};
-ghost use Rattle.codes.specs.Refusals.{shown};
+ghost use Rattle.ground.specs.Refusals.{shown};
 ghost use Rattle.settings.specs.Rules.{ruleOf};
 ghost use Rattle.settings.specs.Reading.{formOf, checkedOf, shownRead, readOf};
 ghost use Rattle.settings.specs.Writing.{Wrote};
@@ -23,6 +24,7 @@ pub struct Settings {
     pub tries: u8,
 }
 
+// What was read.
 pub enum SettingsRead {
     Read(Settings),
     Refused(Refusal),
@@ -78,7 +80,11 @@ fn form_of(text: &[u8]) -> Form
 fn check(own: u8, peer: u8, tries: u8) -> Answer
     ensures { λ r. ⌜ shown r ≡ ruleOf own peer tries ⌝ }
 {
-    if wrong_addresses(Address(own), Address(peer)) {
+    let link = Link {
+        own: Address(own),
+        peer: Address(peer),
+    };
+    if wrong_addresses(link) {
         return Answer::Refused(Refusal::LinkAddresses);
     }
     if wrong_tries(tries) {
@@ -100,6 +106,7 @@ fn checked(own: u8, peer: u8, tries: u8) -> SettingsRead
     }
 }
 
+// The settings that the text says, where it has the form and a link can have them.
 pub fn read_settings(text: &[u8]) -> SettingsRead
     ensures { λ r. ⌜ shownRead r ≡ readOf (now (text .entry)) ⌝ }
 {
@@ -127,9 +134,10 @@ fn put_text(buf: &mut [u8], own: u8, peer: u8, tries: u8) -> usize
     put_line(buf, tries_at, b"tries=", tries)
 }
 
-// Bytes past the text stay, and all of them where it refuses.
+// Writes the text to the front of the buffer. Bytes past it stay, and all of them where the call is refused.
 pub fn write_settings(settings: Settings, buf: &mut [u8]) -> SettingsWritten
-    ensures { λ r. ⌜ Wrote (settings .own .0) (settings .peer .0) (settings .tries) (now (buf .entry)) r (now (buf .exit)) ⌝ }
+    ensures { λ r. ⌜ Wrote (settings .own .0) (settings .peer .0) (settings .tries) (now (buf .entry))
+        r (now (buf .exit)) ⌝ }
 {
     let own = settings.own.0;
     let peer = settings.peer.0;

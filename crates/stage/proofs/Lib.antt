@@ -1,1 +1,7 @@
+-- Each step on a stage is proved beside its code; these are what the proofs share.
+-- a call on a stage: its own promise, and the stage around it
 mod StepLaws
+-- what is shown of an answer tells its values apart
+pub mod ShownLaws
+-- no second outcome fits the promise of any public call
+pub mod Determined

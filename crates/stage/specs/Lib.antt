@@ -1,2 +1,5 @@
-pub mod Exchanges
+-- A stage and its steps. Read `Stages`.
+-- a stage, and each step on it
 pub mod Stages
+-- rows of steps in which nothing is lost
+pub mod Exchanges

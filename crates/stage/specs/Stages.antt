@@ -1,15 +1,18 @@
--- A stage after each step, by the definitions of the two ends.
--- Assumes nothing.
+-- A stage after each step, by the definitions of the two ends. Read `fresh`, then `submitStep` and what follows it.
 use Prim.Native.Nat.{ℕ, _+_}
 use mathlib.Core.List.{List}
 use lib.Dec.{ltb}
 use lib.ListN.{replicate}
-use Rattle.codes.specs.Part.{shownPart}
-use Rattle.codes.specs.Pick.{if}
-use Rattle.codes.specs.declared.address.Address.{Address}
+use Rattle.ground.specs.Part.{shownPart}
+use Rattle.ground.specs.Pick.{if}
+use Rattle.ground.specs.declared.part.Part.{Part}
 use Rattle.initiator.specs.Calls as initiator
+use Rattle.initiator.specs.Calls.{Outcome, confirmed, notSent, unknown}
 use Rattle.initiator.specs.Records as initiatorRecords
 use Rattle.initiator.specs.declared.state.Initiator.{Initiator}
+use Rattle.link_rules.specs.Rules.{room, defaultTries, turned}
+use Rattle.link_rules.specs.declared.link.Link.{Link}
+use Rattle.link_telegrams.specs.Turns.{Said, sent, tells, nothing, refused, Turn}
 use Rattle.responder.specs.Calls as responder
 use Rattle.responder.specs.Records as responderRecords
 use Rattle.responder.specs.declared.state.Responder.{Responder}
@@ -18,12 +21,9 @@ use Rattle.stage.specs.declared.state.ResponderStep.{ResponderStep}
 use Rattle.stage.specs.declared.state.Stage.{Stage}
 use Rattle.stage.specs.declared.state.Tally.{Tally}
 
--- the stations of every scene
-abbrev pub headEnd : Address
-headEnd = record { 0 = 2 }
-
-abbrev pub cabinet : Address
-cabinet = record { 0 = 5 }
+-- the link of every scene, as its initiator has it: the head end's station, and the cabinet's
+abbrev pub sceneLink : Link
+sceneLink = record { own = record { 0 = 2 }; peer = record { 0 = 5 } }
 
 abbrev pub noTally : Tally
 noTally = record { orders = 0; confirmed = 0; «not_sent» = 0; unknown = 0; «carried_out» = 0 }
@@ -32,9 +32,9 @@ noTally = record { orders = 0; confirmed = 0; «not_sent» = 0; unknown = 0; «c
 abbrev pub fresh : Stage
 fresh =
     record {
-      initiator = initiatorRecords.closedOf headEnd cabinet initiatorRecords.defaultTries;
-      responder = responderRecords.blankOf cabinet headEnd;
-      line = replicate 255 0;
+      initiator = initiatorRecords.closedOf sceneLink defaultTries;
+      responder = responderRecords.blankOf (turned sceneLink);
+      line = replicate room 0;
       len = 0;
       tally = noTally;
     }
@@ -47,21 +47,12 @@ onLine s = shownPart (record { start = 0; len = s .len }) (s .line)
 abbrev pub oneMore : ℕ → ℕ
 oneMore n = if (ltb n 255) (n + 1) n
 
--- the bytes that a call of the head end wrote
-abbrev pub sentBy : initiator.Said → ℕ
-sentBy (initiator.sent n) = n
-sentBy (initiator.confirmed reply tries) = 0
-sentBy (initiator.notSent tries) = 0
-sentBy (initiator.unknown tries) = 0
-sentBy initiator.nothing = 0
-sentBy (initiator.refused number) = 0
-
--- the bytes that a call of the cabinet wrote
-abbrev pub repliedBy : responder.Said → ℕ
-repliedBy (responder.sent n) = n
-repliedBy (responder.handUp order) = 0
-repliedBy responder.nothing = 0
-repliedBy (responder.refused number) = 0
+-- the bytes that a call of an end wrote
+abbrev pub sentBy : {Tale : Type 0} → Said Tale → ℕ
+sentBy (sent n) = n
+sentBy (tells tale) = 0
+sentBy nothing = 0
+sentBy (refused number) = 0
 
 -- a submission that wrote something took the order
 abbrev pub takenBy : ℕ → Tally → Tally
@@ -70,84 +61,87 @@ takenBy wrote t =
     (record { orders = oneMore (t .orders); confirmed = t .confirmed; «not_sent» = t .«not_sent»; unknown = t .unknown; «carried_out» = t .«carried_out» })
     t
 
--- an order's outcome is counted
-abbrev pub endedBy : initiator.Said → Tally → Tally
-endedBy (initiator.sent n) t = t
-endedBy (initiator.confirmed reply tries) t =
+-- what an application is told is counted
+abbrev pub countedBy : {Tale : Type 0} → (Tale → Tally → Tally) → Said Tale → Tally → Tally
+countedBy count (sent n) t = t
+countedBy count (tells tale) t = count tale t
+countedBy count nothing t = t
+countedBy count (refused number) t = t
+
+-- an order's outcome
+abbrev pub outcomeCounted : Outcome → Tally → Tally
+outcomeCounted (confirmed reply tries) t =
     record { orders = t .orders; confirmed = oneMore (t .confirmed); «not_sent» = t .«not_sent»; unknown = t .unknown; «carried_out» = t .«carried_out» }
-endedBy (initiator.notSent tries) t =
+outcomeCounted (notSent tries) t =
     record { orders = t .orders; confirmed = t .confirmed; «not_sent» = oneMore (t .«not_sent»); unknown = t .unknown; «carried_out» = t .«carried_out» }
-endedBy (initiator.unknown tries) t =
+outcomeCounted (unknown tries) t =
     record { orders = t .orders; confirmed = t .confirmed; «not_sent» = t .«not_sent»; unknown = oneMore (t .unknown); «carried_out» = t .«carried_out» }
-endedBy initiator.nothing t = t
-endedBy (initiator.refused number) t = t
+
+abbrev pub endedBy : Said Outcome → Tally → Tally
+endedBy said t = countedBy outcomeCounted said t
 
 -- "hand the order up ..., which is its carrying out"
-abbrev pub carriedOutBy : responder.Said → Tally → Tally
-carriedOutBy (responder.sent n) t = t
-carriedOutBy (responder.handUp order) t =
+abbrev pub orderCounted : Part → Tally → Tally
+orderCounted order t =
     record { orders = t .orders; confirmed = t .confirmed; «not_sent» = t .«not_sent»; unknown = t .unknown; «carried_out» = oneMore (t .«carried_out») }
-carriedOutBy responder.nothing t = t
-carriedOutBy (responder.refused number) t = t
+
+abbrev pub carriedOutBy : Said Part → Tally → Tally
+carriedOutBy said t = countedBy orderCounted said t
 
 -- a call of an end on a stage: its answer with document 01's number, and the stage afterwards
-pub record InitiatorStepped : Type 0 where
-  pub said : initiator.Said
+pub record Stepped (Tale : Type 0) : Type 0 where
+  pub said : Said Tale
   pub stage : Stage
 
-pub record ResponderStepped : Type 0 where
-  pub said : responder.Said
-  pub stage : Stage
-
-abbrev pub shownInitiatorStep : InitiatorStep → InitiatorStepped
+abbrev pub shownInitiatorStep : InitiatorStep → Stepped Outcome
 shownInitiatorStep step = record { said = initiator.shownSaid (step .answer); stage = step .stage }
 
-abbrev pub shownResponderStep : ResponderStep → ResponderStepped
+abbrev pub shownResponderStep : ResponderStep → Stepped Part
 shownResponderStep step = record { said = responder.shownSaid (step .answer); stage = step .stage }
 
 -- the end's record is what its call leaves; the line holds what the call wrote, and nothing where it wrote nothing
-abbrev pub afterInitiator : Stage → initiator.Turn → Tally → InitiatorStepped
+abbrev pub afterInitiator : Stage → Turn Initiator Outcome → Tally → Stepped Outcome
 afterInitiator s t tally =
     record {
       said = t .said;
-      stage = record { initiator = t .initiator; responder = s .responder; line = t .buffer; len = sentBy (t .said); tally = tally };
+      stage = record { initiator = t .end; responder = s .responder; line = t .buffer; len = sentBy (t .said); tally = tally };
     }
 
-unfoldable pub afterResponder : Stage → responder.Turn → ResponderStepped
+unfoldable pub afterResponder : Stage → Turn Responder Part → Stepped Part
 afterResponder s t =
     record {
       said = t .said;
       stage =
           record {
             initiator = s .initiator;
-            responder = t .responder;
+            responder = t .end;
             line = t .buffer;
-            len = repliedBy (t .said);
+            len = sentBy (t .said);
             tally = carriedOutBy (t .said) (s .tally);
           };
     }
 
-unfoldable pub submitted : Stage → initiator.Turn → InitiatorStepped
+unfoldable pub submitted : Stage → Turn Initiator Outcome → Stepped Outcome
 submitted s t = afterInitiator s t (takenBy (sentBy (t .said)) (s .tally))
 
-unfoldable pub ended : Stage → initiator.Turn → InitiatorStepped
+unfoldable pub ended : Stage → Turn Initiator Outcome → Stepped Outcome
 ended s t = afterInitiator s t (endedBy (t .said) (s .tally))
 
--- the calls of the head end, each lent the line's bytes as its buffer
-abbrev pub submitStep : Stage → List ℕ → InitiatorStepped
+-- the calls of the initiator, each lent the line's bytes as its buffer
+abbrev pub submitStep : Stage → List ℕ → Stepped Outcome
 submitStep s order = submitted s (initiator.submitOf (s .initiator) order (s .line))
 
-abbrev pub silenceStep : Stage → InitiatorStepped
+abbrev pub silenceStep : Stage → Stepped Outcome
 silenceStep s = ended s (initiator.silenceOf (s .initiator) (s .line))
 
-abbrev pub initiatorHearStep : Stage → InitiatorStepped
+abbrev pub initiatorHearStep : Stage → Stepped Outcome
 initiatorHearStep s = ended s (initiator.hearOf (s .initiator) (onLine s) (s .line))
 
--- the calls of the cabinet
-abbrev pub responderHearStep : Stage → ResponderStepped
+-- the calls of the responder
+abbrev pub responderHearStep : Stage → Stepped Part
 responderHearStep s = afterResponder s (responder.hearOf (s .responder) (onLine s) (s .line))
 
-abbrev pub answerStep : Stage → List ℕ → ResponderStepped
+abbrev pub answerStep : Stage → List ℕ → Stepped Part
 answerStep s reply = afterResponder s (responder.answerOf (s .responder) reply (s .line))
 
 -- the stage with these ends; what was on the line is gone
@@ -158,10 +152,10 @@ withEnds s i r = record { initiator = i; responder = r; line = s .line; len = 0;
 abbrev pub lostOf : Stage → Stage
 lostOf s = withEnds s (s .initiator) (s .responder)
 
--- the head end has "one made anew"
+-- the initiator has "one made anew"
 abbrev pub anewOf : Stage → Stage
 anewOf s = withEnds s (fresh .initiator) (s .responder)
 
--- the cabinet "forgets all"
+-- the responder "forgets all"
 abbrev pub restartedOf : Stage → Stage
 restartedOf s = withEnds s (s .initiator) (responder.restartOf (s .responder))

@@ -2,7 +2,7 @@
 ghost use mathlib.Core.Path.{_≡_};
 ghost use Rattle.initiator.specs.Calls.{shownSaid as initiatorSaid};
 ghost use Rattle.responder.specs.Calls.{shownSaid as responderSaid};
-ghost use Rattle.stage.specs.Stages.{oneMore, sentBy, takenBy, endedBy, repliedBy, carriedOutBy};
+ghost use Rattle.stage.specs.Stages.{oneMore, sentBy, takenBy, endedBy, carriedOutBy};
 use crate::state::Tally;
 use initiator::InitiatorAnswer;
 use responder::ResponderAnswer;
@@ -13,7 +13,7 @@ fn one_more(n: u8) -> u8
     if n < 255 { n + 1 } else { n }
 }
 
-// How many bytes the head end's call wrote.
+// How many bytes the initiator's call wrote.
 pub(crate) fn initiator_wrote(answer: InitiatorAnswer) -> usize
     ensures { λ r. ⌜ r ≡ sentBy (initiatorSaid answer) ⌝ }
 {
@@ -27,9 +27,9 @@ pub(crate) fn initiator_wrote(answer: InitiatorAnswer) -> usize
     }
 }
 
-// How many bytes the cabinet's call wrote.
+// How many bytes the responder's call wrote.
 pub(crate) fn responder_wrote(answer: ResponderAnswer) -> usize
-    ensures { λ r. ⌜ r ≡ repliedBy (responderSaid answer) ⌝ }
+    ensures { λ r. ⌜ r ≡ sentBy (responderSaid answer) ⌝ }
 {
     match answer {
         ResponderAnswer::Sent(len) => len,

@@ -1,8 +1,9 @@
 ghost use mathlib.Core.Path.{_≡_};
 ghost use Rattle.stage.specs.Stages.{fresh, noTally, withEnds, anewOf, restartedOf, lostOf};
-use codes::Address;
+use ground::Address;
 use initiator::Initiator;
 use initiator::InitiatorAnswer;
+use link_rules::Link;
 use responder::Responder;
 use responder::ResponderAnswer;
 
@@ -13,7 +14,7 @@ pub struct Tally {
     pub confirmed: u8,
     pub not_sent: u8,
     pub unknown: u8,
-    // Orders that the cabinet handed up, which is their carrying out.
+    // Orders that the responder handed up, which is their carrying out.
     pub carried_out: u8,
 }
 
@@ -26,7 +27,7 @@ pub struct Stage {
     pub(crate) tally: Tally,
 }
 
-// A call of the head end or of the cabinet: its answer, and the stage afterwards.
+// A call of the initiator or of the responder: its answer, and the stage afterwards.
 pub struct InitiatorStep {
     pub answer: InitiatorAnswer,
     pub stage: Stage,
@@ -57,14 +58,22 @@ fn no_tally() -> Tally
 fn new_initiator() -> Initiator
     ensures { λ r. ⌜ r ≡ fresh .initiator ⌝ }
 {
-    let made = Initiator::with_default_tries(Address(HEAD_END), Address(CABINET));
+    let link = Link {
+        own: Address(HEAD_END),
+        peer: Address(CABINET),
+    };
+    let made = Initiator::with_default_tries(link);
     made.initiator
 }
 
 fn new_responder() -> Responder
     ensures { λ r. ⌜ r ≡ fresh .responder ⌝ }
 {
-    let made = Responder::new(Address(CABINET), Address(HEAD_END));
+    let link = Link {
+        own: Address(CABINET),
+        peer: Address(HEAD_END),
+    };
+    let made = Responder::new(link);
     made.responder
 }
 
@@ -107,7 +116,7 @@ impl Stage {
         }
     }
 
-    // The head end loses its record and starts with one made anew.
+    // The initiator loses its record and starts with one made anew.
     pub fn make_initiator_anew(self) -> Stage
         ensures { λ r. ⌜ r ≡ anewOf self ⌝ }
     {

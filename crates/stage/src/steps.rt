@@ -11,11 +11,11 @@ use crate::state::InitiatorStep;
 use crate::state::ResponderStep;
 use crate::state::Stage;
 use crate::state::Tally;
-use codes::Part;
+use ground::Part;
 use initiator::InitiatorTurn;
 use responder::ResponderTurn;
 
-// The head end's call is over: what it wrote is on the line, and nothing else is.
+// The initiator's call is over: what it wrote is on the line, and nothing else is.
 fn after_initiator(
     stage: Stage,
     turn: InitiatorTurn,
@@ -40,7 +40,7 @@ fn after_initiator(
     }
 }
 
-// The cabinet's call is over.
+// The responder's call is over.
 fn after_responder(stage: Stage, turn: ResponderTurn, line: [u8; 255]) -> ResponderStep
     ensures { λ r. ⌜ shownResponderStep r ≡ afterResponder stage (responderTurn turn line) ⌝ }
 {
@@ -74,7 +74,7 @@ impl Stage {
         after_initiator(self, turn, line, counted)
     }
 
-    // The head end is told that no reply came.
+    // The initiator is told that no reply came.
     pub fn report_silence(self) -> InitiatorStep
         ensures { λ r. ⌜ shownInitiatorStep r ≡ silenceStep self ⌝ }
     {
@@ -87,7 +87,7 @@ impl Stage {
         after_initiator(self, turn, line, counted)
     }
 
-    // The head end hears the telegram on the line.
+    // The initiator hears the telegram on the line.
     pub fn initiator_hears(self) -> InitiatorStep
         ensures { λ r. ⌜ shownInitiatorStep r ≡ initiatorHearStep self ⌝ }
     {
@@ -105,7 +105,7 @@ impl Stage {
         after_initiator(self, turn, line, counted)
     }
 
-    // The cabinet hears the telegram on the line.
+    // The responder hears the telegram on the line.
     pub fn responder_hears(self) -> ResponderStep
         ensures { λ r. ⌜ shownResponderStep r ≡ responderHearStep self ⌝ }
     {
@@ -120,7 +120,7 @@ impl Stage {
         after_responder(self, turn, line)
     }
 
-    // The cabinet's application answers the order that was handed up.
+    // The responder's application answers the order that was handed up.
     pub fn answer(self, reply: &[u8]) -> ResponderStep
         ensures { λ r. ⌜ shownResponderStep r ≡ answerStep self (now (reply .entry)) ⌝ }
     {

@@ -1,30 +1,15 @@
 // What is printed of a step: `key=value` words, a line for the call, one for its answer, and for a telegram that was written its bytes and
 // the lister's line.
-ghost use Prim.Native.Nat.{_≤_};
-ghost use lib.ListN.{length};
 use crate::state::Stage;
-use codes::Part;
-use codes::Refusal;
+use ground::Part;
+use ground::Refusal;
 use initiator::InitiatorAnswer;
-use libc::STDOUT_FILENO;
+use line_text::bytes::find;
+use line_text::bytes::front;
+pub(crate) use line_text::printing::print;
+pub(crate) use line_text::printing::print_number;
 use responder::ResponderAnswer;
 use text::put_hex;
-
-pub(crate) fn print(text: &[u8]) {
-    io::write_all(STDOUT_FILENO, text);
-}
-
-// The first bytes of a buffer.
-fn front(bytes: &[u8], len: usize) -> &[u8] {
-    let part = Part { start: 0, len };
-    part.show(bytes)
-}
-
-// A number behind its key.
-pub(crate) fn print_number(key: &[u8], n: u8) {
-    print(key);
-    io::print_decimal(STDOUT_FILENO, n as u64);
-}
 
 // In hexadecimal. No telegram of the link has more than 255 bytes; a longer order or reply, which the calls refuse, is not spelt out.
 fn print_hex(bytes: &[u8]) {
@@ -80,21 +65,6 @@ pub(crate) fn print_bytes(key: &[u8], bytes: &[u8]) {
     print(b" text=");
     print_text(bytes);
     print(b"\n");
-}
-
-// The first place from `at` on that has this byte, or the end.
-fn find(text: &[u8], at: usize, b: u8) -> usize
-    requires { ⌜ at ≤ length (now text) ⌝ }
-    ensures { λ r. ⌜ (at ≤ r) × (r ≤ length (now (text .entry))) ⌝ }
-{
-    let mut next = at;
-    while next < text.len() {
-        if text[next] == b {
-            return next;
-        }
-        next += 1;
-    }
-    next
 }
 
 // Of a listing the line between `bytes` and `end`: that of its first telegram.

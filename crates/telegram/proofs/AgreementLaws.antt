@@ -1,5 +1,5 @@
--- Reading looks at a telegram's own bytes alone: byte strings that agree so far are answered alike.
--- Assumes nothing.
+-- Reading looks at a telegram's own bytes alone: byte strings that agree so far are answered alike. Read `answer-lasts`, `own-bytes`,
+-- `shorter-incomplete`.
 use Prim.Native.Nat.{ℕ, _+_, _<_, _≤_, min}
 use mathlib.Core.Bool.{Bool, true, false}
 use mathlib.Core.List.{List, _++_}
@@ -8,13 +8,14 @@ use native.Mathlib.Nat.{add-zero, add-assoc, le-refl}
 use native.Mathlib.Omega.{arith}
 use lib.ListN.{length, take, drop, length-take, length-append, take-append-drop, List·getD-append}
 use lib.Seq.{ext-getD, getD-take}
-use Rattle.codes.proofs.PartLaws.{part-length, part-at}
-use Rattle.codes.specs.FunctionCodes.{digit}
-use Rattle.codes.specs.Part.{part, byteAt}
+use Rattle.ground.proofs.BitLaws.{digit-small}
+use Rattle.ground.proofs.Injective.{zero-one}
+use Rattle.ground.proofs.PartLaws.{part-length, part-at}
+use Rattle.ground.specs.Bits.{digit}
+use Rattle.ground.specs.Part.{part, byteAt}
 use Rattle.codes.specs.declared.function_code.FunctionCode.{FunctionCode}
 use Rattle.telegram.proofs.Answers.{Content, sap-missing, sum-differs, end-differs, content-whole, Frame, under-total, code-unknown, code-known, Answered, nothing, confirmation, token-short, token-whole, unknown, data-short, lengths-differ, length-small, sd1, sd2, sd3, content-answered, answer-content, answer-is}
 use Rattle.telegram.proofs.ReadingLaws.{reason, total-within}
-use Rattle.telegram.proofs.TopBitLaws.{digit-small}
 use Rattle.telegram.specs.Reading.{Reading, whole, incomplete, refused, top, sapAt, headerAt, sapsAt, contentOf, readOf}
 use Rattle.telegram.specs.declared.kinds.Telegram.{Telegram}
 
@@ -136,7 +137,9 @@ take-agrees n s h =
     }
 
 -- A telegram stays the same when bytes are added behind it.
-pub whole-lasts : (s t : List ℕ) {telegram : Telegram} {n : ℕ} → readOf s ≡ whole telegram n → readOf (s ++ t) ≡ whole telegram n
+pub whole-lasts :
+    (s t : List ℕ) {telegram : Telegram} {n : ℕ} → readOf s ≡ whole telegram n
+    → readOf (s ++ t) ≡ whole telegram n
 whole-lasts s t e = answer-is (lasts (append-agrees s t) (total-within s e) (reason s e))
 
 -- And so does a refusal.
@@ -144,7 +147,9 @@ pub refused-lasts : (s t : List ℕ) {k : ℕ} → readOf s ≡ refused k → re
 refused-lasts s t e = answer-is (lasts (append-agrees s t) (le-refl (length s)) (reason s e))
 
 -- A telegram is read from its own bytes alone.
-pub own-bytes : (s : List ℕ) {telegram : Telegram} {n : ℕ} → readOf s ≡ whole telegram n → readOf (take n s) ≡ whole telegram n
+pub own-bytes :
+    (s : List ℕ) {telegram : Telegram} {n : ℕ} → readOf s ≡ whole telegram n
+    → readOf (take n s) ≡ whole telegram n
 own-bytes s {n = n} e = answer-is (lasts (take-agrees n s (total-within s e)) (le-refl n) (reason s e))
 
 -- An answer does not change when bytes are added behind it.
@@ -157,7 +162,9 @@ answer-lasts s t told = by-answer (readOf s) refl
     by-answer (refused k) e = refused-lasts s t e ∙ sym e
 
 -- Fewer bytes than a telegram has are incomplete.
-pub shorter-incomplete : (s : List ℕ) {telegram : Telegram} {n : ℕ} (k : ℕ) → readOf s ≡ whole telegram n → k < n → readOf (take k s) ≡ incomplete
+pub shorter-incomplete :
+    (s : List ℕ) {telegram : Telegram} {n : ℕ} (k : ℕ) → readOf s ≡ whole telegram n → k < n
+    → readOf (take k s) ≡ incomplete
 shorter-incomplete s {telegram} {n} k all h = by-answer (readOf (take k s)) refl
   where
     again : {r : Reading} → readOf (take k s ++ drop k s) ≡ r → whole telegram n ≡ r
@@ -172,5 +179,4 @@ shorter-incomplete s {telegram} {n} k all h = by-answer (readOf (take k s)) refl
     by-answer incomplete e = e
     by-answer (refused j) e =
         let other : whole telegram n ≡ refused j = again (refused-lasts (take k s) (drop k s) e) in
-        let z : _≡_ {A = ℕ} 0 1 = cc in
-        absurd (omega arith)
+        absurd (zero-one (cc))

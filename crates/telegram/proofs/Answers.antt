@@ -1,5 +1,5 @@
--- Every answer of reading, with what is known where it is given: the laws of reading go by these cases.
--- Assumes nothing.
+-- Every answer of reading, with what is known where it is given (`Answered`): the laws of reading go by these cases. Read `answered` and
+-- `answer-is`, the two ways.
 use Prim.Native.Nat.{ℕ, suc, _+_, _<_, _≤_}
 use mathlib.Core.Bool.{Bool, true, false, not}
 use mathlib.Core.List.{List}
@@ -9,15 +9,16 @@ use native.Mathlib.Omega.{arith}
 use lib.Dec.{eqb, ltb}
 use lib.ListN.{length}
 use borrow.Author.Tests.{ltb-true, ltb-false, eqb-true, eqb-false, not-true, not-false, lt-ltb, le-ltb, eq-eqb, ne-eqb}
-use Rattle.codes.proofs.PickLaws.{picked}
+use Rattle.ground.proofs.Injective.{zero-one}
+use Rattle.ground.proofs.PickLaws.{picked}
 use Rattle.codes.specs.Checksums.{checksumOf}
 use Rattle.codes.specs.FunctionCodes.{functionCodeOf}
-use Rattle.codes.specs.Part.{part, byteAt}
-use Rattle.codes.specs.Pick.{if}
+use Rattle.ground.specs.Part.{part, byteAt}
+use Rattle.ground.specs.Pick.{if}
 use Rattle.codes.specs.declared.function_code.FunctionCode.{FunctionCode}
 use Rattle.codes.specs.declared.function_code.FunctionCodeFound.{FunctionCodeFound}
 use Rattle.codes.specs.declared.function_code.FunctionCodeFound.the-variants as codeFound
-use Rattle.telegram.specs.Delimiters.{SD1, SD2, SD3, SD4, SC, ED}
+use Rattle.codes.specs.Delimiters.{SD1, SD2, SD3, SD4, SC, ED}
 use Rattle.telegram.specs.Reading.{Reading, whole, incomplete, refused, sapsAt, telegramAt, tokenAt, contentOf, codeOf, frameOf, lengthsOf, dataOf, tokenOf, startsData, readOf}
 use Rattle.telegram.specs.declared.kinds.Telegram.the-variants.{Data, Token, ShortConfirmation}
 
@@ -45,7 +46,9 @@ module _ (s : List ℕ) where
   data-start h (inr (inl e)) = rw (ne-eqb _ _ h, e)
   data-start h (inr (inr e)) = rw (ne-eqb _ _ h, e)
 
-  pub unknown-read : (length s ≡ 0 → ⊥) → (byteAt s 0 ≡ SC → ⊥) → (byteAt s 0 ≡ SD4 → ⊥) → (DataStart (byteAt s 0) → ⊥) → readOf s ≡ refused 1
+  pub unknown-read :
+      (length s ≡ 0 → ⊥) → (byteAt s 0 ≡ SC → ⊥) → (byteAt s 0 ≡ SD4 → ⊥) → (DataStart (byteAt s 0) → ⊥)
+      → readOf s ≡ refused 1
   unfolding readOf
   unknown-read h a b d =
       rw (
@@ -96,15 +99,24 @@ module _ (s : List ℕ) where
 -- Steps 5 to 7.
 pub data Content (s : List ℕ) (at l : ℕ) (fc : FunctionCode) : Reading → Type 0 where
   sap-missing : l < 3 + sapsAt s at → Content s at l fc (refused 5)
-  sum-differs : 3 + sapsAt s at ≤ l → (byteAt s (at + l) ≡ checksumOf (part s at (at + l)) → ⊥) → Content s at l fc (refused 6)
-  end-differs : 3 + sapsAt s at ≤ l → byteAt s (at + l) ≡ checksumOf (part s at (at + l)) → (byteAt s (at + l + 1) ≡ ED → ⊥) → Content s at l fc (refused 7)
-  content-whole : 3 + sapsAt s at ≤ l → byteAt s (at + l) ≡ checksumOf (part s at (at + l)) → byteAt s (at + l + 1) ≡ ED → Content s at l fc (whole (Data (telegramAt s at l fc)) (at + l + 2))
+  sum-differs :
+      3 + sapsAt s at ≤ l → (byteAt s (at + l) ≡ checksumOf (part s at (at + l)) → ⊥)
+      → Content s at l fc (refused 6)
+  end-differs :
+      3 + sapsAt s at ≤ l → byteAt s (at + l) ≡ checksumOf (part s at (at + l)) → (byteAt s (at + l + 1) ≡ ED → ⊥)
+      → Content s at l fc (refused 7)
+  content-whole :
+      3 + sapsAt s at ≤ l → byteAt s (at + l) ≡ checksumOf (part s at (at + l)) → byteAt s (at + l + 1) ≡ ED
+      → Content s at l fc (whole (Data (telegramAt s at l fc)) (at + l + 2))
 
 -- Steps 3 and 4.
 pub data Frame (s : List ℕ) (at l : ℕ) : Reading → Type 0 where
   under-total : length s < at + l + 2 → Frame s at l incomplete
   code-unknown : at + l + 2 ≤ length s → functionCodeOf (byteAt s (at + 2)) ≡ codeFound.Nothing → Frame s at l (refused 4)
-  code-known : {r : Reading} (fc : FunctionCode) → at + l + 2 ≤ length s → functionCodeOf (byteAt s (at + 2)) ≡ codeFound.Is fc → Content s at l fc r → Frame s at l r
+  code-known :
+      {r : Reading} (fc : FunctionCode)
+      → at + l + 2 ≤ length s → functionCodeOf (byteAt s (at + 2)) ≡ codeFound.Is fc → Content s at l fc r
+      → Frame s at l r
 
 -- Steps 1 and 2, and what stands before them.
 pub data Answered (s : List ℕ) : Reading → Type 0 where
@@ -112,12 +124,16 @@ pub data Answered (s : List ℕ) : Reading → Type 0 where
   confirmation : 1 ≤ length s → byteAt s 0 ≡ SC → Answered s (whole ShortConfirmation 1)
   token-short : 1 ≤ length s → byteAt s 0 ≡ SD4 → length s < 3 → Answered s incomplete
   token-whole : 3 ≤ length s → byteAt s 0 ≡ SD4 → Answered s (whole (Token (tokenAt s)) 3)
-  unknown : 1 ≤ length s → (byteAt s 0 ≡ SC → ⊥) → (byteAt s 0 ≡ SD4 → ⊥) → (DataStart (byteAt s 0) → ⊥) → Answered s (refused 1)
+  unknown :
+      1 ≤ length s → (byteAt s 0 ≡ SC → ⊥) → (byteAt s 0 ≡ SD4 → ⊥) → (DataStart (byteAt s 0) → ⊥)
+      → Answered s (refused 1)
   data-short : 1 ≤ length s → DataStart (byteAt s 0) → length s < 6 → Answered s incomplete
   lengths-differ : 6 ≤ length s → byteAt s 0 ≡ SD2 → (byteAt s 1 ≡ byteAt s 2 → ⊥) → Answered s (refused 2)
   length-small : 6 ≤ length s → byteAt s 0 ≡ SD2 → byteAt s 1 ≡ byteAt s 2 → byteAt s 1 < 3 → Answered s (refused 3)
   sd1 : {r : Reading} → 6 ≤ length s → byteAt s 0 ≡ SD1 → Frame s 1 3 r → Answered s r
-  sd2 : {r : Reading} → 6 ≤ length s → byteAt s 0 ≡ SD2 → byteAt s 1 ≡ byteAt s 2 → 3 ≤ byteAt s 1 → Frame s 4 (byteAt s 1) r → Answered s r
+  sd2 :
+      {r : Reading} → 6 ≤ length s → byteAt s 0 ≡ SD2 → byteAt s 1 ≡ byteAt s 2 → 3 ≤ byteAt s 1 → Frame s 4 (byteAt s 1) r
+      → Answered s r
   sd3 : {r : Reading} → 6 ≤ length s → byteAt s 0 ≡ SD3 → Frame s 1 11 r → Answered s r
 
 pub content-answered : (s : List ℕ) (at l : ℕ) (fc : FunctionCode) → Content s at l fc (contentOf s at l fc)
@@ -130,7 +146,10 @@ content-answered s at l fc =
     (λ e. end-differs (ltb-false _ _ fits) (eqb-true _ _ (not-false _ sum)) (eqb-false _ _ (not-true _ e)))
     (λ e. content-whole (ltb-false _ _ fits) (eqb-true _ _ (not-false _ sum)) (eqb-true _ _ (not-false _ e)))))
 
-code-answered : (s : List ℕ) (at l : ℕ) → at + l + 2 ≤ length s → (found : FunctionCodeFound) → functionCodeOf (byteAt s (at + 2)) ≡ found → Frame s at l (codeOf s at l found)
+code-answered :
+    (s : List ℕ) (at l : ℕ) → at + l + 2 ≤ length s
+    → (found : FunctionCodeFound) → functionCodeOf (byteAt s (at + 2)) ≡ found
+    → Frame s at l (codeOf s at l found)
 code-answered s at l h (codeFound.Is fc) e = code-known fc h e (content-answered s at l fc)
 code-answered s at l h codeFound.Nothing e = code-unknown h e
 
@@ -176,9 +195,9 @@ starts-true b t =
     (one-of (eqb b SD1) (eqb b SD2) (eqb b SD3) t)
 
 starts-false : (b : ℕ) → startsData b ≡ false → DataStart b → ⊥
-starts-false b t (inl e) = let z : _≡_ {A = ℕ} 0 1 = cc (rw e at t) in omega arith
-starts-false b t (inr (inl e)) = let z : _≡_ {A = ℕ} 0 1 = cc (rw e at t) in omega arith
-starts-false b t (inr (inr e)) = let z : _≡_ {A = ℕ} 0 1 = cc (rw e at t) in omega arith
+starts-false b t (inl e) = zero-one (cc (rw e at t))
+starts-false b t (inr (inl e)) = zero-one (cc (rw e at t))
+starts-false b t (inr (inr e)) = zero-one (cc (rw e at t))
 
 token-answered : (s : List ℕ) → 1 ≤ length s → byteAt s 0 ≡ SD4 → Answered s (tokenOf s)
 unfolding tokenOf
@@ -201,7 +220,9 @@ answered s =
     filled : (length s ≡ 0 → ⊥) → 1 ≤ length s
     filled h = omega arith
 
-pub answer-content : {s : List ℕ} {at l : ℕ} {fc : FunctionCode} {r : Reading} → Content s at l fc r → contentOf s at l fc ≡ r
+pub answer-content :
+    {s : List ℕ} {at l : ℕ} {fc : FunctionCode} {r : Reading} → Content s at l fc r
+    → contentOf s at l fc ≡ r
 unfolding contentOf
 answer-content (sap-missing h) = rw (lt-ltb _ _ h)
 answer-content (sum-differs h e) = rw (le-ltb _ _ h, ne-eqb _ _ e)
@@ -209,7 +230,10 @@ answer-content (end-differs h e d) = rw (le-ltb _ _ h, eq-eqb _ _ e, ne-eqb _ _ 
 answer-content (content-whole h e d) = rw (le-ltb _ _ h, eq-eqb _ _ e, eq-eqb _ _ d)
 
 -- A function code that is known: the rest of the telegram decides.
-pub code-read : (s : List ℕ) (at l : ℕ) (fc : FunctionCode) → at + l + 2 ≤ length s → functionCodeOf (byteAt s (at + 2)) ≡ codeFound.Is fc → frameOf s at l ≡ contentOf s at l fc
+pub code-read :
+    (s : List ℕ) (at l : ℕ) (fc : FunctionCode)
+    → at + l + 2 ≤ length s → functionCodeOf (byteAt s (at + 2)) ≡ codeFound.Is fc
+    → frameOf s at l ≡ contentOf s at l fc
 unfolding frameOf
 code-read s at l fc h e = rw (le-ltb _ _ h, e)
 

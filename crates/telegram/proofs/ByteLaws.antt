@@ -1,5 +1,4 @@
 -- Laws of byte strings: which lists are bytes, and their first bytes.
--- Assumes nothing.
 use Prim.Native.Nat.{ℕ, zero, suc, _+_, _<_, _≤_}
 use mathlib.Core.List.{List, [], _∷_, _++_}
 use mathlib.Core.Path.{_≡_, _∙_, ap}
@@ -8,7 +7,7 @@ use native.Mathlib.Omega.{arith}
 use lib.Dec.{lit<}
 use lib.ListN.{length, drop, replicate}
 use lib.Seq.{drop-cons, getD-drop}
-use Rattle.codes.specs.Part.{byteAt}
+use Rattle.ground.specs.Part.{byteAt}
 use Rattle.telegram.specs.Begins.{Bytes}
 
 pub empty-bytes : Bytes []

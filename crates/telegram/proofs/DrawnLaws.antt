@@ -1,6 +1,5 @@
--- What begins with a telegram's picture is read as that telegram.
--- Assumes nothing.
-use Prim.Native.Nat.{ℕ, _+_, _-_, _/_, _%_, _<_, _≤_}
+-- What begins with a telegram's picture is read as that telegram: `picture-reads`.
+use Prim.Native.Nat.{ℕ, _+_, _-_, _%_, _≤_}
 use mathlib.Core.Bool.{Bool, true, false}
 use mathlib.Core.List.{List, [], _∷_, _++_, append-assoc}
 use mathlib.Core.Path.{_≡_, refl, _∙_, ap}
@@ -9,19 +8,17 @@ use native.Mathlib.Omega.{arith}
 use lib.ListN.{length, length-append}
 use lib.Seq.{getD-append-add, getD-append-seam}
 use borrow.Author.Tests.{le-leb, lt-leb}
-use Rattle.codes.proofs.FunctionCodeLaws.{read-written}
-use Rattle.codes.proofs.NumberLaws.{state-number-small, status-number-small}
-use Rattle.codes.proofs.PartLaws.{part-between}
+use Rattle.codes.proofs.FunctionCodeLaws.{code-reads}
+use Rattle.ground.proofs.PartLaws.{part-between}
 use Rattle.codes.specs.Checksums.{checksumOf}
-use Rattle.codes.specs.FunctionCodes.{digit, codeByte, functionCodeOf}
-use Rattle.codes.specs.Part.{part, byteAt}
+use Rattle.ground.specs.Bits.{digit}
+use Rattle.codes.specs.FunctionCodes.{CodeRead, asWritten}
+use Rattle.ground.specs.Part.{part, byteAt}
 use Rattle.codes.specs.declared.function_code.FunctionCode.{FunctionCode}
-use Rattle.codes.specs.declared.function_code.FunctionCode.the-variants.{Response}
-use Rattle.codes.specs.declared.function_code.FunctionCodeFound.the-variants as codeFound
 use Rattle.telegram.proofs.AgreementLaws.{header-same, saps-same}
 use Rattle.telegram.proofs.Answers.{Content, content-whole, Frame, code-known, confirmation, token-whole, sd1, sd2, sd3, answer-is}
-use Rattle.telegram.specs.Begins.{Rules, standard, document01, CodeRead, asWritten, bit7Set, StartOf, withSD1, withSD2, withSD3, DrawsData, Draws, Begins}
-use Rattle.telegram.specs.Delimiters.{SD1, SD2, SD3, ED}
+use Rattle.telegram.specs.Begins.{Rules, standard, document01, StartOf, withSD1, withSD2, withSD3, DrawsData, Draws, Begins}
+use Rattle.codes.specs.Delimiters.{SD1, SD2, SD3, ED}
 use Rattle.telegram.specs.Picture.{addressByte, sapBytes, headWith, framed}
 use Rattle.telegram.specs.Reading.{whole, top, sapAt, headerAt, sapsAt, telegramAt, readOf}
 use Rattle.telegram.specs.declared.header.DataTelegramHeader.{DataTelegramHeader}
@@ -30,24 +27,6 @@ use Rattle.telegram.specs.declared.header.SapOption.the-variants.{Some, 
 use Rattle.telegram.specs.declared.kinds.DataTelegram.{DataTelegram}
 use Rattle.telegram.specs.declared.kinds.Telegram.{Telegram}
 use Rattle.telegram.specs.declared.kinds.Telegram.the-variants.{Data, Token, ShortConfirmation}
-
--- Bit 7 is looked at in a request alone.
-bit7-ignored : (b : ℕ) → b < 64 → functionCodeOf (b + 128) ≡ functionCodeOf b
-unfolding functionCodeOf
-bit7-ignored b h =
-    let high : (b + 128) / 64 ≡ 2 = omega arith in
-    let low : b / 64 ≡ 0 = omega arith in
-    let state : (b + 128) / 16 % 4 ≡ b / 16 % 4 = omega arith in
-    let status : (b + 128) % 16 ≡ b % 16 = omega arith in
-    rw (high, low, state, status)
-
--- Every byte of a function code is read as it.
-pub code-reads : {fc : FunctionCode} {b : ℕ} → CodeRead fc b → functionCodeOf b ≡ codeFound.Is fc
-unfolding codeByte
-code-reads {fc} asWritten = read-written fc
-code-reads (bit7Set {state} {status}) =
-    bit7-ignored _ (omega (arith, state-number-small state, status-number-small status))
-    ∙ read-written (Response state status)
 
 -- whether there is a SAP
 isSome : SapOption → Bool
@@ -73,7 +52,9 @@ unfolding isSome
 first-sap a b c (Some sap) p q = refl
 first-sap a b c None p q = refl
 
-second-sap : (a b c : ℕ) (o p : SapOption) (q : List ℕ) → sapAt (isSome p) (a ∷ b ∷ c ∷ sapBytes o ++ sapBytes p ++ q) (3 + digit (isSome o)) ≡ p
+second-sap :
+    (a b c : ℕ) (o p : SapOption) (q : List ℕ)
+    → sapAt (isSome p) (a ∷ b ∷ c ∷ sapBytes o ++ sapBytes p ++ q) (3 + digit (isSome o)) ≡ p
 unfolding isSome
 second-sap a b c o None q = refl
 second-sap a b c (Some sap) (Some x) q = refl
@@ -127,7 +108,9 @@ module _ (start c rest : List ℕ) where
   end-at = rw add-assoc (from-start (length c + 1) ∙ getD-append-add c (checksumOf c ∷ ED ∷ rest) 1 0)
 
 -- A framed head and PDU, behind any start, are read as a data telegram.
-module _ (d : DataTelegram) (da : d .h .da .0 ≤ 127) (sa : d .h .sa .0 ≤ 127) (code : ℕ) (codeIs : CodeRead (d .h .fc) code) (pdu rest c : List ℕ) (covers : c ≡ headWith (d .h) code ++ pdu) (len : d .pdu .len ≡ length pdu) where
+module _
+    (d : DataTelegram) (da : d .h .da .0 ≤ 127) (sa : d .h .sa .0 ≤ 127) (code : ℕ) (codeIs : CodeRead (d .h .fc) code)
+    (pdu rest c : List ℕ) (covers : c ≡ headWith (d .h) code ++ pdu) (len : d .pdu .len ≡ length pdu) where
   head-first : c ++ checksumOf c ∷ ED ∷ rest ≡ headWith (d .h) code ++ (pdu ++ checksumOf c ∷ ED ∷ rest)
   head-first = ap (λ l. l ++ checksumOf c ∷ ED ∷ rest) covers ∙ append-assoc (headWith (d .h) code) pdu (checksumOf c ∷ ED ∷ rest)
 
@@ -135,7 +118,10 @@ module _ (d : DataTelegram) (da : d .h .da .0 ≤ 127) (sa : d .h .sa .0 ≤ 127
   saps-long = rw covers (simp length-append (omega arith))
 
   module _ (start : List ℕ) (place : d .pdu .start ≡ length (start ++ headWith (d .h) code)) where
-    near : (k : ℕ) → k ≤ 4 → byteAt (framedThen start c rest) (length start + k) ≡ byteAt (headWith (d .h) code ++ (pdu ++ checksumOf c ∷ ED ∷ rest)) (0 + k)
+    near :
+        (k : ℕ) → k ≤ 4
+        → byteAt (framedThen start c rest) (length start + k)
+        ≡ byteAt (headWith (d .h) code ++ (pdu ++ checksumOf c ∷ ED ∷ rest)) (0 + k)
     near k h = rw (zero-add, ← head-first) (from-start start c rest k)
 
     header-is : headerAt (framedThen start c rest) (length start) (d .h .fc) ≡ d .h
@@ -156,14 +142,19 @@ module _ (d : DataTelegram) (da : d .h .da .0 ≤ 127) (sa : d .h .sa .0 ≤ 127
         = omega (arith, saps-long) in
         rw (header-is, saps-are, from, left)
 
-    frame-drawn : Frame (framedThen start c rest) (length start) (length c) (whole (Data d) (length start + length c + 2))
+    frame-drawn :
+        Frame (framedThen start c rest) (length start) (length c) (whole (Data d) (length start + length c + 2))
     frame-drawn =
         let code-at : byteAt (framedThen start c rest) (length start + 2) ≡ code = near 2 (omega arith) in
-        let content : Content (framedThen start c rest) (length start) (length c) (d .h .fc) (whole (Data (telegramAt (framedThen start c rest) (length start) (length c) (d .h .fc))) (length start + length c + 2))
+        let content :
+        Content (framedThen start c rest) (length start) (length c) (d .h .fc)
+        (whole (Data (telegramAt (framedThen start c rest) (length start) (length c) (d .h .fc))) (length start + length c + 2))
         = content-whole (omega (arith, saps-are, saps-long)) (rw (part-is start c rest) (sum-at start c rest)) (end-at start c rest) in
         code-known (d .h .fc) (omega (arith, all-length start c rest)) (rw code-at (code-reads codeIs)) (rw telegram-is at content)
 
-  start-read : {l : ℕ} {start : List ℕ} → StartOf document01 l start → l ≡ length c → d .pdu .start ≡ length (start ++ headWith (d .h) code) → readOf (framedThen start c rest) ≡ whole (Data d) (length start + l + 2)
+  start-read :
+      {l : ℕ} {start : List ℕ} → StartOf document01 l start → l ≡ length c → d .pdu .start ≡ length (start ++ headWith (d .h) code)
+      → readOf (framedThen start c rest) ≡ whole (Data d) (length start + l + 2)
   start-read withSD1 e place =
       answer-is (sd1 (omega (arith, all-length (SD1 ∷ []) c rest)) refl (rw (← e) at (frame-drawn (SD1 ∷ []) place)))
   start-read withSD3 e place =
@@ -173,7 +164,9 @@ module _ (d : DataTelegram) (da : d .h .da .0 ≤ 127) (sa : d .h .sa .0 ≤ 127
       (sd2 (omega (arith, all-length (SD2 ∷ l ∷ l ∷ fourth ∷ []) c rest)) refl refl low
       (rw (← e) at (frame-drawn (SD2 ∷ l ∷ l ∷ fourth ∷ []) place)))
 
-data-reads : {d : DataTelegram} {picture : List ℕ} (rest : List ℕ) → DrawsData document01 d picture → readOf (picture ++ rest) ≡ whole (Data d) (length picture)
+data-reads :
+    {d : DataTelegram} {picture : List ℕ} (rest : List ℕ) → DrawsData document01 d picture
+    → readOf (picture ++ rest) ≡ whole (Data d) (length picture)
 data-reads {d} rest draws =
     let c : List ℕ = headWith (d .h) (draws .code) ++ draws .pdu in
     let total : length (framed (draws .start) c) ≡ length (draws .start) + length c + 2 = simp length-append (omega arith) in

@@ -1,10 +1,22 @@
-pub mod AgreementLaws
-pub mod Answers
-pub mod ByteLaws
+-- Read `Theorems`; the rest serves it.
+-- the reader and the standard's picture, joined
+pub mod Theorems
+-- what is read beyond the standard, computed
+pub mod Samples
+-- no second outcome fits the promise of any public call
+pub mod Determined
+-- what begins with a picture is read; what is read begins with its picture; what is written is a picture
 pub mod DrawnLaws
 pub mod PictureLaws
-pub mod ReadingLaws
-pub mod Samples
-pub mod Theorems
-pub mod TopBitLaws
 pub mod WrittenLaws
+-- reading looks at a telegram's own bytes alone
+pub mod AgreementLaws
+-- laws of reading for callers: lengths, places, refusals
+pub mod ReadingLaws
+-- laws of a stream: its rule without a count of steps, and what it is exactly
+pub mod StreamLaws
+-- every answer of reading, with what is known where it is given
+pub mod Answers
+-- lists of bytes; an address byte's top bit
+pub mod ByteLaws
+pub mod TopBitLaws

@@ -1,6 +1,5 @@
--- What is read as a telegram begins with its picture: the way back from DrawnLaws.
--- Assumes nothing.
-use Prim.Native.Nat.{ℕ, _+_, _-_, _/_, _%_, _<_, _≤_}
+-- What is read as a telegram begins with its picture, `read-picture`: the way back from DrawnLaws.
+use Prim.Native.Nat.{ℕ, _+_, _-_, _%_, _<_, _≤_}
 use mathlib.Core.Bool.{Bool, true, false}
 use mathlib.Core.List.{List, [], _∷_, _++_, append-assoc}
 use mathlib.Core.Path.{_≡_, refl, sym, _∙_, ap, subst}
@@ -10,59 +9,31 @@ use lib.Dec.{leb}
 use lib.ListN.{length, take, drop, length-append, length-take, length-drop, take-append-drop}
 use lib.Seq.{drop-cons, drop-drop, getD-drop, take-take}
 use borrow.Author.Tests.{leb-true, leb-false}
-use Rattle.codes.proofs.FunctionCodeLaws.{written-read}
-use Rattle.codes.proofs.PartLaws.{part-length}
+use Rattle.codes.proofs.FunctionCodeLaws.{read-code}
+use Rattle.ground.proofs.PartLaws.{part-length}
 use Rattle.codes.specs.Checksums.{checksumOf}
-use Rattle.codes.specs.FunctionCodes.{bit, digit, codeByte, functionCodeOf, responseOf}
-use Rattle.codes.specs.Part.{part, byteAt}
-use Rattle.codes.specs.Responses.{stateOf, statusOf}
+use Rattle.ground.specs.Bits.{digit}
+use Rattle.codes.specs.FunctionCodes.{functionCodeOf}
+use Rattle.ground.specs.Part.{part, byteAt}
 use Rattle.codes.specs.declared.function_code.FunctionCode.{FunctionCode}
-use Rattle.codes.specs.declared.function_code.FunctionCode.the-variants.{Response}
 use Rattle.codes.specs.declared.function_code.FunctionCodeFound.the-variants as codeFound
-use Rattle.codes.specs.declared.response.ResponseStateFound.{ResponseStateFound}
-use Rattle.codes.specs.declared.response.ResponseStateFound.the-variants as stateFound
-use Rattle.codes.specs.declared.response.ResponseStatusFound.{ResponseStatusFound}
-use Rattle.codes.specs.declared.response.ResponseStatusFound.the-variants as statusFound
 use Rattle.telegram.proofs.AgreementLaws.{header-same, saps-same}
 use Rattle.telegram.proofs.Answers.{content-whole, Frame, code-known, Answered, confirmation, token-whole, sd1, sd2, sd3}
 use Rattle.telegram.proofs.ByteLaws.{drop-bytes, one-byte, two-more, three-bytes}
 use Rattle.telegram.proofs.ReadingLaws.{reason}
-use Rattle.telegram.specs.Begins.{Bytes, document01, CodeRead, asWritten, bit7Set, StartOf, withSD1, withSD2, withSD3, DrawsData, Begins}
-use Rattle.telegram.specs.Delimiters.{SD1, SD2, SD3, SD4, SC, ED}
+use Rattle.telegram.specs.Begins.{Bytes, document01, StartOf, withSD1, withSD2, withSD3, DrawsData, Begins}
+use Rattle.codes.specs.Delimiters.{SD1, SD2, SD3, SD4, SC, ED}
 use Rattle.telegram.specs.Picture.{addressByte, sapBytes, headWith, framed, tokenBytes, confirmationBytes}
 use Rattle.telegram.specs.Reading.{whole, top, sapAt, headerAt, sapsAt, telegramAt, readOf}
 use Rattle.telegram.specs.declared.kinds.Telegram.{Telegram}
 use Rattle.telegram.specs.declared.kinds.Telegram.the-variants.{Data}
 
--- A response's byte, with bit 7 either way.
-either-way : (x : ResponseStateFound) (y : ResponseStatusFound) (fc : FunctionCode) (b : ℕ) (t : Bool) → leb 128 b ≡ t → b < 256 → responseOf x y ≡ codeFound.Is fc → codeByte fc ≡ b % 128 → CodeRead fc b
-either-way (stateFound.Is state) (statusFound.Is status) fc b true t h e k =
-    let is : Response state status ≡ fc = cc in
-    let byte : codeByte (Response state status) + 128 ≡ b = omega (arith, leb-true 128 b t, rw (← is) at k) in
-    rw (← is, ← byte) bit7Set
-either-way (stateFound.Is state) (statusFound.Is status) fc b false t h e k =
-    let byte : codeByte fc ≡ b = omega (arith, leb-false 128 b t) in
-    rw (← byte) asWritten
-either-way (stateFound.Is state) statusFound.Nothing fc b t q h e k = let z : _≡_ {A = ℕ} 0 1 = cc in absurd (omega arith)
-either-way stateFound.Nothing y fc b t q h e k = let z : _≡_ {A = ℕ} 0 1 = cc in absurd (omega arith)
-
-by-bit6 : (b : ℕ) → b < 256 → (fc : FunctionCode) → functionCodeOf b ≡ codeFound.Is fc → (t : Bool) → bit 6 b ≡ t → CodeRead fc b
-unfolding functionCodeOf
-by-bit6 b h fc e true q = let byte : codeByte fc ≡ b = rw q at (written-read b h fc e) in rw (← byte) asWritten
-by-bit6 b h fc e false q =
-    either-way (stateOf (b / 16 % 4)) (statusOf (b % 16)) fc b (leb 128 b) refl h (rw q at e) (rw q at (written-read b h fc e))
-
--- A byte that is read as a function code is one of its bytes.
-code-byte : (b : ℕ) → b < 256 → (fc : FunctionCode) → functionCodeOf b ≡ codeFound.Is fc → CodeRead fc b
-code-byte b h fc e = by-bit6 b h fc e (bit 6 b) refl
-
 -- An address byte is its address with the top bit, which its SAP announces.
 address-kept : (a : ℕ) → a < 256 → (s : List ℕ) (at : ℕ) → addressByte (a % 128) (sapAt (top a) s at) ≡ a
-address-kept a h s at = by-top (top a) refl
-  where
-    by-top : (t : Bool) → leb 128 a ≡ t → addressByte (a % 128) (sapAt t s at) ≡ a
-    by-top true e = omega (arith, leb-true 128 a e)
-    by-top false e = omega (arith, leb-false 128 a e)
+address-kept a h s at = by-top (top a) refl where
+  by-top : (t : Bool) → leb 128 a ≡ t → addressByte (a % 128) (sapAt t s at) ≡ a
+  by-top true e = omega (arith, leb-true 128 a e)
+  by-top false e = omega (arith, leb-false 128 a e)
 
 saps-taken : (a b c x y : ℕ) (q : List ℕ) (t v : Bool) →
     a ∷ b ∷ c ∷ sapBytes (sapAt t (a ∷ b ∷ c ∷ x ∷ y ∷ q) 3) ++ sapBytes (sapAt v (a ∷ b ∷ c ∷ x ∷ y ∷ q) (3 + digit t))
@@ -73,7 +44,9 @@ saps-taken a b c x y q false true = refl
 saps-taken a b c x y q false false = refl
 
 -- The header that is read, drawn again, is the bytes that it was read from.
-head-taken : (r : List ℕ) (fc : FunctionCode) → Bytes r → 5 ≤ length r → headWith (headerAt r 0 fc) (byteAt r 2) ≡ take (3 + sapsAt r 0) r
+head-taken :
+    (r : List ℕ) (fc : FunctionCode) → Bytes r → 5 ≤ length r
+    → headWith (headerAt r 0 fc) (byteAt r 2) ≡ take (3 + sapsAt r 0) r
 unfolding headerAt sapsAt
 head-taken (a ∷ b ∷ c ∷ x ∷ y ∷ q) fc byte h =
     rw (address-kept a (byte 0) (a ∷ b ∷ c ∷ x ∷ y ∷ q) 3, address-kept b (byte 1) (a ∷ b ∷ c ∷ x ∷ y ∷ q) (3 + digit (top a)))
@@ -85,7 +58,10 @@ head-taken (a ∷ []) fc byte h = absurd (omega arith)
 head-taken [] fc byte h = absurd (omega arith)
 
 -- A data telegram that is read from a place, behind a start, is drawn there.
-module _ (s : List ℕ) (byte : Bytes s) (at l : ℕ) (fc : FunctionCode) (low : 3 ≤ l) (start : StartOf document01 l (take at s)) (known : functionCodeOf (byteAt s (at + 2)) ≡ codeFound.Is fc) (enough : at + l + 2 ≤ length s) (fits : 3 + sapsAt s at ≤ l) (sum : byteAt s (at + l) ≡ checksumOf (part s at (at + l))) (end : byteAt s (at + l + 1) ≡ ED) where
+module _
+    (s : List ℕ) (byte : Bytes s) (at l : ℕ) (fc : FunctionCode) (low : 3 ≤ l) (start : StartOf document01 l (take at s))
+    (known : functionCodeOf (byteAt s (at + 2)) ≡ codeFound.Is fc) (enough : at + l + 2 ≤ length s) (fits : 3 + sapsAt s at ≤ l)
+    (sum : byteAt s (at + l) ≡ checksumOf (part s at (at + l))) (end : byteAt s (at + l + 1) ≡ ED) where
   near : (k : ℕ) → k ≤ 4 → byteAt s (at + k) ≡ byteAt (drop at s) (0 + k)
   near k h = rw zero-add (sym (getD-drop at s k 0))
 
@@ -96,7 +72,9 @@ module _ (s : List ℕ) (byte : Bytes s) (at l : ℕ) (fc : FunctionCode) (low :
       (head-taken (drop at s) fc (drop-bytes at s byte) (simp length-drop (omega arith))
       ∙ sym (take-take (3 + sapsAt (drop at s) 0) (at + l - at) (drop at s) (omega arith)))
 
-  covers : headWith (headerAt s at fc) (byteAt s (at + 2)) ++ drop (3 + sapsAt s at) (part s at (at + l)) ≡ part s at (at + l)
+  covers :
+      headWith (headerAt s at fc) (byteAt s (at + 2)) ++ drop (3 + sapsAt s at) (part s at (at + l))
+      ≡ part s at (at + l)
   covers =
       ap (λ q. q ++ drop (3 + sapsAt s at) (part s at (at + l))) head-is
       ∙ take-append-drop (3 + sapsAt s at) (part s at (at + l))
@@ -115,7 +93,7 @@ module _ (s : List ℕ) (byte : Bytes s) (at l : ℕ) (fc : FunctionCode) (low :
         pdu = drop (3 + sapsAt s at) (part s at (at + l));
         drawn = ap (framed (take at s)) (sym covers);
         startIs = subst (λ k. StartOf document01 k (take at s)) (sym (ap length covers ∙ part-length s at l (omega arith))) start;
-        codeIs = code-byte (byteAt s (at + 2)) (byte (at + 2)) fc known;
+        codeIs = read-code (byteAt s (at + 2)) (byte (at + 2)) fc known;
         daSmall = omega arith;
         saSmall = omega arith;
         pduStart = sym place;
@@ -141,14 +119,19 @@ module _ (s : List ℕ) (byte : Bytes s) (at l : ℕ) (fc : FunctionCode) (low :
         total = simp (length-append, length-take, length-drop) (omega arith);
       }
 
-frame-drawn : {s : List ℕ} {t : Telegram} {n : ℕ} (at l : ℕ) → Bytes s → 3 ≤ l → StartOf document01 l (take at s) → Frame s at l (whole t n) → Begins document01 s t n
+frame-drawn :
+    {s : List ℕ} {t : Telegram} {n : ℕ} (at l : ℕ)
+    → Bytes s → 3 ≤ l → StartOf document01 l (take at s) → Frame s at l (whole t n)
+    → Begins document01 s t n
 frame-drawn {s} at l byte low start (code-known fc enough known (content-whole fits sum end)) =
     begins-data s byte at l fc low start known enough fits sum end
 
 start-one : (s : List ℕ) (b : ℕ) → 6 ≤ length s → byteAt s 0 ≡ b → b ∷ [] ≡ take 1 s
 start-one s b h e = sym (ap (take 1) (one-byte s b (omega arith) e))
 
-start-four : (s : List ℕ) → 6 ≤ length s → byteAt s 0 ≡ SD2 → byteAt s 1 ≡ byteAt s 2 → SD2 ∷ byteAt s 1 ∷ byteAt s 1 ∷ byteAt s 3 ∷ [] ≡ take 4 s
+start-four :
+    (s : List ℕ) → 6 ≤ length s → byteAt s 0 ≡ SD2 → byteAt s 1 ≡ byteAt s 2
+    → SD2 ∷ byteAt s 1 ∷ byteAt s 1 ∷ byteAt s 3 ∷ [] ≡ take 4 s
 start-four s h d e =
     let all : s ≡ SD2 ∷ byteAt s 1 ∷ byteAt s 2 ∷ byteAt s 3 ∷ drop 4 s = three-bytes s SD2 (omega arith) d ∙ ap (λ q. SD2 ∷ byteAt s 1 ∷ byteAt s 2 ∷ q) (drop-cons s 3 0 (omega arith)) in
     sym (ap (take 4) all ∙ ap (λ b. SD2 ∷ byteAt s 1 ∷ b ∷ byteAt s 3 ∷ []) (sym e))

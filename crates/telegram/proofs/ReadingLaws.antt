@@ -1,14 +1,14 @@
 -- Laws of reading, for callers: how long a telegram is and where its PDU lies; when an answer is incomplete; that two
 -- answers of the reader that are shown alike are alike.
--- Assumes nothing.
 use Prim.Native.Nat.{ℕ, _+_, _<_, _≤_}
 use mathlib.Core.List.{List, _++_}
 use mathlib.Core.Path.{_≡_, refl, sym, _∙_, ap}
 use native.Mathlib.Omega.{arith}
 use lib.ListN.{length, length-append, replicate, length-replicate}
-use Rattle.codes.proofs.NumberLaws.{number-injective}
-use Rattle.codes.specs.Refusals.{numberOf}
-use Rattle.codes.specs.declared.refusal.Refusal.{Refusal}
+use Rattle.ground.proofs.Injective.{injective}
+use Rattle.ground.proofs.RefusalLaws.{refusalOf, refusal-again}
+use Rattle.ground.specs.Refusals.{numberOf}
+use Rattle.ground.specs.declared.refusal.Refusal.{Refusal}
 use Rattle.telegram.proofs.Answers.{sap-missing, sum-differs, end-differs, content-whole, Frame, under-total, code-unknown, code-known, Answered, nothing, confirmation, token-short, token-whole, unknown, data-short, lengths-differ, length-small, sd1, sd2, sd3, answered}
 use Rattle.telegram.proofs.ByteLaws.{append-bytes, zero-bytes}
 use Rattle.telegram.specs.Begins.{Bytes}
@@ -73,11 +73,15 @@ ends (sd2 h d q l (code-known fc g e (content-whole f a b))) = omega arith
 ends (sd3 h d (code-known fc g e (content-whole f a b))) = omega arith
 
 -- Behind a telegram's PDU stand the checksum and the end delimiter.
-pub pdu-ends : (s : List ℕ) {d : DataTelegram} {n : ℕ} → readOf s ≡ whole (Data d) n → d .pdu .start + d .pdu .len + 2 ≡ n
+pub pdu-ends :
+    (s : List ℕ) {d : DataTelegram} {n : ℕ} → readOf s ≡ whole (Data d) n
+    → d .pdu .start + d .pdu .len + 2 ≡ n
 pdu-ends s e = ends (reason s e)
 
 -- A telegram's PDU lies within it.
-pub pdu-within : (s : List ℕ) {d : DataTelegram} {n : ℕ} → readOf s ≡ whole (Data d) n → d .pdu .start + d .pdu .len ≤ n
+pub pdu-within :
+    (s : List ℕ) {d : DataTelegram} {n : ℕ} → readOf s ≡ whole (Data d) n
+    → d .pdu .start + d .pdu .len ≤ n
 pdu-within s e = omega (arith, pdu-ends s e)
 
 seven-bits : {s : List ℕ} {d : DataTelegram} {n : ℕ} → Answered s (whole (Data d) n) → (d .h .da .0 ≤ 127) × (d .h .sa .0 ≤ 127)
@@ -87,7 +91,9 @@ seven-bits (sd2 h d q l (code-known fc g e (content-whole f a b))) = omega arith
 seven-bits (sd3 h d (code-known fc g e (content-whole f a b))) = omega arith
 
 -- The addresses of a data telegram are at most 127.
-pub addresses-small : (s : List ℕ) {d : DataTelegram} {n : ℕ} → readOf s ≡ whole (Data d) n → (d .h .da .0 ≤ 127) × (d .h .sa .0 ≤ 127)
+pub addresses-small :
+    (s : List ℕ) {d : DataTelegram} {n : ℕ} → readOf s ≡ whole (Data d) n
+    → (d .h .da .0 ≤ 127) × (d .h .sa .0 ≤ 127)
 addresses-small s e = seven-bits (reason s e)
 
 short : {s : List ℕ} → Bytes s → Answered s incomplete → length s < 261
@@ -140,14 +146,16 @@ numbered (sd3 h d f) = frame-numbered f
 pub refused-numbered : (s : List ℕ) {k : ℕ} → readOf s ≡ refused k → (1 ≤ k) × (k ≤ 7)
 refused-numbered s e = numbered (reason s e)
 
--- What the reader answers is told from its answer as it is shown.
+-- What the reader answers is the one that its answer, as it is shown, leads back to.
+abbrev readingBack : Reading → Deserialized
+readingBack (whole t n) = deserialized.Telegram t n
+readingBack incomplete = deserialized.Incomplete
+readingBack (refused k) = deserialized.Refused (refusalOf k)
+
+reading-again : (x : Deserialized) → readingBack (shownReading x) ≡ x
+reading-again (deserialized.Telegram t n) = refl
+reading-again deserialized.Incomplete = refl
+reading-again (deserialized.Refused r) = ap deserialized.Refused (refusal-again r)
+
 pub shown-reading-injective : (x y : Deserialized) → shownReading x ≡ shownReading y → x ≡ y
-shown-reading-injective (deserialized.Telegram t n) (deserialized.Telegram u m) e = cc
-shown-reading-injective (deserialized.Telegram t n) deserialized.Incomplete e = cc
-shown-reading-injective (deserialized.Telegram t n) (deserialized.Refused y) e = cc
-shown-reading-injective deserialized.Incomplete (deserialized.Telegram u m) e = cc
-shown-reading-injective deserialized.Incomplete deserialized.Incomplete e = refl
-shown-reading-injective deserialized.Incomplete (deserialized.Refused y) e = cc
-shown-reading-injective (deserialized.Refused x) (deserialized.Telegram u m) e = cc
-shown-reading-injective (deserialized.Refused x) deserialized.Incomplete e = cc
-shown-reading-injective (deserialized.Refused x) (deserialized.Refused y) e = cc (number-injective x y (cc))
+shown-reading-injective = injective shownReading readingBack reading-again

@@ -1,17 +1,16 @@
--- The smallest inputs that are read beyond the standard, computed on the definitions.
--- Assumes nothing.
+-- The smallest inputs that are read beyond the standard, computed on the definitions: `beyond-the-standard`.
 use Prim.Native.Nat.{ℕ, _≤_}
 use mathlib.Core.List.{List, _∷_, _++_, append-assoc}
 use mathlib.Core.Path.{_≡_, refl, sym, _∙_, ap}
 use native.Mathlib.Omega.{arith}
 use Rattle.codes.specs.Checksums.{sumOf, checksumOf}
 use Rattle.codes.specs.FunctionCodes.{codeByte, functionCodeOf}
-use Rattle.codes.specs.Part.{byteAt}
+use Rattle.ground.specs.Part.{byteAt}
 use Rattle.codes.specs.RequestTypes.{requestTypeOf}
 use Rattle.codes.specs.Responses.{stateOf, statusOf}
 use Rattle.telegram.proofs.DrawnLaws.{framed-then, picture-reads, standard-begins}
 use Rattle.telegram.specs.Begins.{standard, StartOf, withSD1, withSD2, withSD3, Begins}
-use Rattle.telegram.specs.Delimiters.{SD1, SD2, ED}
+use Rattle.codes.specs.Delimiters.{SD1, SD2, ED}
 use Rattle.telegram.specs.Picture.{headWith}
 use Rattle.telegram.specs.Reading.{headerAt, sapsAt, contentOf, frameOf, lengthsOf, dataOf, tokenOf, whole, readOf}
 use Rattle.telegram.specs.Samples.{Beyond, BeyondTheStandard}
@@ -20,13 +19,18 @@ use Rattle.telegram.specs.declared.kinds.DataTelegram.{DataTelegram}
 use Rattle.telegram.specs.declared.kinds.Telegram.the-variants.{Data}
 
 -- By the standard, an SD2 telegram's L and fourth byte lie within its bounds.
-start-bounds : {l : ℕ} {start : List ℕ} → StartOf standard l start → (q : List ℕ) → byteAt (start ++ q) 0 ≡ SD2 → (4 ≤ byteAt (start ++ q) 1) × (byteAt (start ++ q) 1 ≤ 249) × (byteAt (start ++ q) 3 ≡ SD2)
+start-bounds :
+    {l : ℕ} {start : List ℕ} → StartOf standard l start → (q : List ℕ) → byteAt (start ++ q) 0 ≡ SD2
+    → (4 ≤ byteAt (start ++ q) 1) × (byteAt (start ++ q) 1 ≤ 249) × (byteAt (start ++ q) 3 ≡ SD2)
 start-bounds withSD1 q e = absurd (omega arith)
 start-bounds withSD3 q e = absurd (omega arith)
 start-bounds (withSD2 low fourth) q e = (low .0, low .1, fourth)
 
 -- And the fourth byte of an SD1 telegram is its function code's.
-start-code : {l : ℕ} {start : List ℕ} → StartOf standard l start → (h : DataTelegramHeader) (code : ℕ) (q : List ℕ) → byteAt (start ++ (headWith h code ++ q)) 0 ≡ SD1 → byteAt (start ++ (headWith h code ++ q)) 3 ≡ code
+start-code :
+    {l : ℕ} {start : List ℕ} → StartOf standard l start → (h : DataTelegramHeader) (code : ℕ) (q : List ℕ)
+    → byteAt (start ++ (headWith h code ++ q)) 0 ≡ SD1
+    → byteAt (start ++ (headWith h code ++ q)) 3 ≡ code
 start-code withSD1 h code q e = refl
 start-code withSD3 h code q e = absurd (omega arith)
 start-code (withSD2 low fourth) h code q e = absurd (omega arith)

@@ -1,12 +1,11 @@
--- Laws of an address byte's top bit, which announces a SAP.
--- Assumes nothing.
-use Prim.Native.Nat.{ℕ, _/_, _<_, _≤_}
+-- Laws of an address byte's top bit, which announces a SAP: `top-counted`.
+use Prim.Native.Nat.{ℕ, _/_, _<_}
 use mathlib.Core.Bool.{Bool, true, false}
 use mathlib.Core.Path.{_≡_, refl}
 use native.Mathlib.Omega.{arith}
 use lib.Dec.{leb}
 use borrow.Author.Tests.{leb-true, leb-false}
-use Rattle.codes.specs.FunctionCodes.{digit}
+use Rattle.ground.specs.Bits.{digit}
 use Rattle.telegram.specs.Reading.{top}
 
 counted : (b : ℕ) → b < 256 → (t : Bool) → leb 128 b ≡ t → b / 128 ≡ digit t
@@ -16,7 +15,3 @@ counted b h false e = omega (arith, leb-false 128 b e)
 -- A byte's top bit is what is left above 128.
 pub top-counted : (b : ℕ) → b < 256 → b / 128 ≡ digit (top b)
 top-counted b h = counted b h (top b) refl
-
-pub digit-small : (t : Bool) → digit t ≤ 1
-digit-small true = omega arith
-digit-small false = omega arith

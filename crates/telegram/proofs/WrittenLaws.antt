@@ -1,5 +1,4 @@
--- What a writer writes is a picture by the standard, and so is read back.
--- Assumes nothing.
+-- What a writer writes is a picture by the standard, `written-draws-standard`, and so is read back: `read-after-write`, `pdu-after-write`.
 use Prim.Native.Nat.{ℕ, _≤_}
 use mathlib.Core.List.{List, [], _∷_, _++_, append-assoc}
 use mathlib.Core.Path.{_≡_, refl, sym, _∙_, ap}
@@ -8,14 +7,14 @@ use lib.Dec.{eqb}
 use lib.ListN.{length, take, drop, length-append}
 use lib.Seq.{take-append-seam, drop-append-seam, take-at, drop-at}
 use borrow.Author.Tests.{eqb-true, eqb-false}
-use Rattle.codes.proofs.PartLaws.{shown-between}
-use Rattle.codes.proofs.PickLaws.{picked}
+use Rattle.ground.proofs.PartLaws.{shown-between}
+use Rattle.ground.proofs.PickLaws.{picked}
 use Rattle.codes.specs.Checksums.{checksumOf}
-use Rattle.codes.specs.FunctionCodes.{codeByte}
-use Rattle.codes.specs.Part.{byteAt, shownPart}
+use Rattle.codes.specs.FunctionCodes.{codeByte, asWritten}
+use Rattle.ground.specs.Part.{byteAt, shownPart}
 use Rattle.telegram.proofs.DrawnLaws.{picture-reads}
-use Rattle.telegram.specs.Begins.{Rules, standard, document01, asWritten, StartOf, withSD1, withSD2, withSD3, DrawsData, AsWritten}
-use Rattle.telegram.specs.Delimiters.{SD2, ED}
+use Rattle.telegram.specs.Begins.{Rules, standard, document01, StartOf, withSD1, withSD2, withSD3, DrawsData, AsWritten}
+use Rattle.codes.specs.Delimiters.{SD2, ED}
 use Rattle.telegram.specs.Picture.{headWith, headBytes, atFront, coveredBytes, lengthByte, startBytes, framed, telegramBytes, tokenBytes, confirmationBytes}
 use Rattle.telegram.specs.Reading.{whole, readOf}
 use Rattle.telegram.specs.declared.header.DataTelegramHeader.{DataTelegramHeader}
@@ -24,18 +23,24 @@ use Rattle.telegram.specs.declared.kinds.Telegram.the-variants.{Data, To
 use Rattle.telegram.specs.declared.kinds.TokenTelegram.{TokenTelegram}
 
 -- The start that is written, by any rules that allow its length byte where it has one, and the delimiter again.
-written-start : {rules : Rules} (l : ℕ) → ((l ≡ 3 → ⊥) → rules .lengthMayBe l) → rules .fourthMayBe SD2 → StartOf rules l (startBytes l)
+written-start :
+    {rules : Rules} (l : ℕ) → ((l ≡ 3 → ⊥) → rules .lengthMayBe l) → rules .fourthMayBe SD2
+    → StartOf rules l (startBytes l)
 unfolding startBytes
 written-start {rules} l lengths again =
     picked (StartOf rules l) (eqb l 3) (λ e. rw (eqb-true l 3 e) withSD1)
     (λ not3. picked (StartOf rules l) (eqb l 11) (λ e. rw (eqb-true l 11 e) withSD3)
     (λ not11. withSD2 (lengths (eqb-false l 3 not3)) again))
 
-framed-parts : (start head pdu rest : List ℕ) → framed start (head ++ pdu) ++ rest ≡ start ++ head ++ (pdu ++ checksumOf (head ++ pdu) ∷ ED ∷ rest)
+framed-parts :
+    (start head pdu rest : List ℕ)
+    → framed start (head ++ pdu) ++ rest ≡ start ++ head ++ (pdu ++ checksumOf (head ++ pdu) ∷ ED ∷ rest)
 framed-parts start head pdu rest = simp append-assoc
 
 -- A telegram's PDU is the part of its bytes that it says.
-pub pdu-drawn : {rules : Rules} {d : DataTelegram} {picture : List ℕ} (rest : List ℕ) (draws : DrawsData rules d picture) → shownPart (d .pdu) (picture ++ rest) ≡ draws .pdu
+pub pdu-drawn :
+    {rules : Rules} {d : DataTelegram} {picture : List ℕ} (rest : List ℕ) (draws : DrawsData rules d picture)
+    → shownPart (d .pdu) (picture ++ rest) ≡ draws .pdu
 pdu-drawn {d = d} {picture = picture} rest draws =
     let head : List ℕ = headWith (d .h) (draws .code) in
     let behind : List ℕ = checksumOf (head ++ draws .pdu) ∷ ED ∷ rest in
@@ -47,7 +52,9 @@ unfolding lengthByte coveredBytes headBytes
 counts-head h pdu = omega arith
 
 module _ (h : DataTelegramHeader) (pdu : List ℕ) (da : h .da .0 ≤ 127) (sa : h .sa .0 ≤ 127) where
-  written-draws : {rules : Rules} → StartOf rules (lengthByte h pdu) (startBytes (lengthByte h pdu)) → rules .codeMayBe (h .fc) (codeByte (h .fc)) → DrawsData rules (atFront h pdu) (telegramBytes h pdu)
+  written-draws :
+      {rules : Rules} → StartOf rules (lengthByte h pdu) (startBytes (lengthByte h pdu)) → rules .codeMayBe (h .fc) (codeByte (h .fc))
+      → DrawsData rules (atFront h pdu) (telegramBytes h pdu)
   unfolding telegramBytes coveredBytes headBytes lengthByte
   written-draws start code =
       record {
@@ -72,7 +79,9 @@ module _ (h : DataTelegramHeader) (pdu : List ℕ) (da : h .da .0 ≤ 127) (sa :
   read-draws = written-draws (written-start (lengthByte h pdu) (λ not3. counts-head h pdu) tt) asWritten
 
   -- Reading what was written gives the header back and where the PDU stands, whatever follows it.
-  pub read-after-write : (rest : List ℕ) → readOf (telegramBytes h pdu ++ rest) ≡ whole (Data (atFront h pdu)) (length (telegramBytes h pdu))
+  pub read-after-write :
+      (rest : List ℕ)
+      → readOf (telegramBytes h pdu ++ rest) ≡ whole (Data (atFront h pdu)) (length (telegramBytes h pdu))
   read-after-write rest =
       picture-reads
       (record {
@@ -89,7 +98,9 @@ module _ (h : DataTelegramHeader) (pdu : List ℕ) (da : h .da .0 ≤ 127) (sa :
   pdu-after-write rest = pdu-drawn rest read-draws
 
 -- A written token and a short confirmation are read back too.
-pub token-after-write : (t : TokenTelegram) (rest : List ℕ) → readOf (tokenBytes (t .da .0) (t .sa .0) ++ rest) ≡ whole (Token t) 3
+pub token-after-write :
+    (t : TokenTelegram) (rest : List ℕ)
+    → readOf (tokenBytes (t .da .0) (t .sa .0) ++ rest) ≡ whole (Token t) 3
 token-after-write t rest =
     picture-reads
     (record {

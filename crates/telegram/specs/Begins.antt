@@ -1,18 +1,14 @@
--- "These bytes begin with this telegram": the standard's picture as a relation, which knows nothing of how a reader goes
--- about it, with the three points named in which document 01, as the Rust, takes more than the standard draws.
--- Assumes nothing.
+-- "These bytes begin with this telegram", `Begins`: the standard's picture as a relation, which knows nothing of how a reader goes
+-- about it, with the three points named in which document 01, as the Rust, takes more than the standard draws (`standard`, `document01`).
 use Prim.Native.Nat.{ℕ, _+_, _<_, _≤_}
 use mathlib.Core.List.{List, [], _∷_, _++_}
 use mathlib.Core.Logic.{_⊎_}
 use mathlib.Core.Path.{_≡_}
 use lib.ListN.{length}
-use Rattle.codes.specs.FunctionCodes.{codeByte}
-use Rattle.codes.specs.Part.{byteAt}
+use Rattle.codes.specs.FunctionCodes.{codeByte, CodeRead}
+use Rattle.ground.specs.Part.{byteAt}
 use Rattle.codes.specs.declared.function_code.FunctionCode.{FunctionCode}
-use Rattle.codes.specs.declared.function_code.FunctionCode.the-variants.{Response}
-use Rattle.codes.specs.declared.response.ResponseState.{ResponseState}
-use Rattle.codes.specs.declared.response.ResponseStatus.{ResponseStatus}
-use Rattle.telegram.specs.Delimiters.{SD1, SD2, SD3}
+use Rattle.codes.specs.Delimiters.{SD1, SD2, SD3}
 use Rattle.telegram.specs.Picture.{headWith, startBytes, framed, tokenBytes, confirmationBytes}
 use Rattle.telegram.specs.declared.kinds.DataTelegram.{DataTelegram}
 use Rattle.telegram.specs.declared.kinds.Telegram.{Telegram}
@@ -35,11 +31,6 @@ standard =
       fourthMayBe = λ b. b ≡ SD2;
       codeMayBe = λ fc b. b ≡ codeByte fc;
     }
-
--- "bit 7 is ignored": a response's byte with bit 7 clear or set; a request's byte is one
-pub data CodeRead : FunctionCode → ℕ → Type 0 where
-  asWritten : {fc : FunctionCode} → CodeRead fc (codeByte fc)
-  bit7Set : {state : ResponseState} {status : ResponseStatus} → CodeRead (Response state status) (codeByte (Response state status) + 128)
 
 -- Document 01, in three points more: L of 3 and above 249 too; "an SD2 telegram's fourth byte is never looked at"; and
 -- bit 7 of a response either way.

@@ -1,6 +1,13 @@
-pub mod Begins
-pub mod Delimiters
+-- Read `Picture` and `Begins`: what a telegram is; then `Reading`: what a reader answers.
+-- the bytes of a telegram, as the standard draws it
 pub mod Picture
-pub mod Questions
+-- which bytes begin with a telegram, by the standard and by document 01
+pub mod Begins
+-- document 01's steps of reading, with their refusals
 pub mod Reading
+-- the small questions that the Rust answers of a telegram
+pub mod Questions
+-- the smallest inputs that are read beyond the standard
 pub mod Samples
+-- the telegrams of a byte string, one behind the other, and how it ends
+pub mod Stream

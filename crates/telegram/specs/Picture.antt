@@ -1,14 +1,13 @@
--- A telegram as the standard draws it: which bytes it is. Nothing here knows how a reader or a writer goes about it.
+-- A telegram as the standard draws it, `telegramBytes`: which bytes it is. Nothing here knows how a reader or a writer goes about it.
 -- (Which byte strings count as a telegram for a reader is said in Begins.antt, with the same pieces.)
--- Assumes nothing.
 use Prim.Native.Nat.{ℕ, _+_}
 use mathlib.Core.List.{List, [], _∷_, _++_}
 use lib.Dec.{eqb}
 use lib.ListN.{length}
 use Rattle.codes.specs.Checksums.{checksumOf}
 use Rattle.codes.specs.FunctionCodes.{codeByte}
-use Rattle.codes.specs.Pick.{if}
-use Rattle.telegram.specs.Delimiters.{SD1, SD2, SD3, SD4, SC, ED}
+use Rattle.ground.specs.Pick.{if}
+use Rattle.codes.specs.Delimiters.{SD1, SD2, SD3, SD4, SC, ED}
 use Rattle.telegram.specs.declared.header.DataTelegramHeader.{DataTelegramHeader}
 use Rattle.telegram.specs.declared.header.SapOption.{SapOption}
 use Rattle.telegram.specs.declared.header.SapOption.the-variants.{Some, None}

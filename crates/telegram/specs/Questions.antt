@@ -1,9 +1,8 @@
 -- The small questions that the Rust answers of a telegram.
--- Assumes nothing.
 use lib.Dec.{eqb}
-use Rattle.codes.specs.Pick.{if}
+use Rattle.ground.specs.Pick.{if}
 use Rattle.codes.specs.RequestTypes.{requestNumber}
-use Rattle.codes.specs.declared.address.Address.{Address}
+use Rattle.ground.specs.declared.address.Address.{Address}
 use Rattle.codes.specs.declared.function_code.FunctionCode.{FunctionCode}
 use Rattle.codes.specs.declared.function_code.FunctionCode.the-variants.{Request, Response}
 use Rattle.codes.specs.declared.request_type.RequestType.the-variants.{FdlStatus}

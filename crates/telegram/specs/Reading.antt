@@ -1,19 +1,19 @@
--- Document 01, "Reading a telegram": the answer to every byte string, in its order and with its numbers.
--- Assumes nothing.
+-- Document 01, "Reading a telegram": the answer to every byte string, in its order and with its numbers. Read from the end, `readOf`, back.
 use Prim.Native.Nat.{ℕ, _+_, _-_, _%_}
 use mathlib.Core.Bool.{Bool, true, false, not}
 use mathlib.Core.List.{List}
 use lib.Dec.{eqb, leb, ltb}
 use lib.ListN.{length}
 use Rattle.codes.specs.Checksums.{checksumOf}
-use Rattle.codes.specs.FunctionCodes.{digit, functionCodeOf}
-use Rattle.codes.specs.Part.{part, byteAt}
-use Rattle.codes.specs.Pick.{if}
-use Rattle.codes.specs.Refusals.{numberOf}
+use Rattle.ground.specs.Bits.{digit}
+use Rattle.codes.specs.FunctionCodes.{functionCodeOf}
+use Rattle.ground.specs.Part.{part, byteAt}
+use Rattle.ground.specs.Pick.{if}
+use Rattle.ground.specs.Refusals.{numberOf}
 use Rattle.codes.specs.declared.function_code.FunctionCode.{FunctionCode}
 use Rattle.codes.specs.declared.function_code.FunctionCodeFound.{FunctionCodeFound}
 use Rattle.codes.specs.declared.function_code.FunctionCodeFound.the-variants as codeFound
-use Rattle.telegram.specs.Delimiters.{SD1, SD2, SD3, SD4, SC, ED}
+use Rattle.codes.specs.Delimiters.{SD1, SD2, SD3, SD4, SC, ED}
 use Rattle.telegram.specs.declared.deserialize.Deserialized.{Deserialized}
 use Rattle.telegram.specs.declared.deserialize.Deserialized.the-variants as deserialized
 use Rattle.telegram.specs.declared.header.DataTelegramHeader.{DataTelegramHeader}

@@ -1,10 +1,9 @@
--- The smallest inputs of the three points in which reading takes more than the standard draws.
--- Assumes nothing.
+-- The smallest inputs of the three points in which reading takes more than the standard draws: `BeyondTheStandard`.
 use Prim.Native.Nat.{ℕ}
 use mathlib.Core.List.{List, [], _∷_, _++_}
 use mathlib.Core.Path.{_≡_}
 use lib.ListN.{replicate}
-use Rattle.codes.specs.declared.function_code.FunctionCode.the-variants.{Response}
+use Rattle.codes.specs.FunctionCodes.{responseCode}
 use Rattle.codes.specs.declared.response.ResponseState.the-variants.{Slave}
 use Rattle.codes.specs.declared.response.ResponseStatus.the-variants.{Ok}
 use Rattle.telegram.specs.Begins.{standard, Begins}
@@ -24,7 +23,7 @@ zeros start len =
             sa = record { 0 = 0 };
             dsap = None;
             ssap = None;
-            fc = Response Slave Ok;
+            fc = responseCode Slave Ok;
           };
       pdu = record { start = start; len = len };
     }

@@ -1,20 +1,21 @@
+// Reading, after telegram.rs. Promise: `readOf` in specs/Reading.antt, with a function for each of its definitions.
 ghost use mathlib.Core.Path.{_≡_};
 ghost use Prim.Native.Nat.{_+_, _<_, _≤_};
 ghost use lib.ListN.{length};
-ghost use Rattle.codes.specs.FunctionCodes.{digit};
+ghost use Rattle.ground.specs.Bits.{digit};
 ghost use Rattle.telegram.specs.Reading.{shownReading, readOf, tokenOf, dataOf, lengthsOf, frameOf, contentOf, headerAt, sapsAt, sapAt, top};
 use crate::header::DataTelegramHeader;
 use crate::header::SapOption;
 use crate::kinds::DataTelegram;
 use crate::kinds::Telegram;
 use crate::kinds::TokenTelegram;
-use codes::Address;
 use codes::FunctionCode;
 use codes::FunctionCodeFound;
-use codes::Part;
-use codes::Refusal;
-use codes::Sap;
 use codes::consts;
+use ground::Address;
+use ground::Part;
+use ground::Refusal;
+use ground::Sap;
 
 // What reading finds: a telegram with its total length, too few bytes to tell, or a refusal of 1 to 7.
 // (Rust's `Option<Result<(Telegram, usize), ()>>`.)
@@ -151,7 +152,7 @@ fn read_token(buffer: &[u8]) -> Deserialized
 }
 
 impl Telegram {
-    // The telegram that these bytes begin with.
+    // The telegram that these bytes begin with. (A method's proof stands with its type's: proofs/kinds/Telegram/deserialize.)
     pub fn deserialize(buffer: &[u8]) -> Deserialized
         ensures { λ r. ⌜ shownReading r ≡ readOf (now (buffer .entry)) ⌝ }
     {

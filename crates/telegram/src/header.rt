@@ -1,6 +1,7 @@
-use codes::Address;
+// The header of a data telegram, and an address or a SAP that may be absent.
 use codes::FunctionCode;
-use codes::Sap;
+use ground::Address;
+use ground::Sap;
 
 // A service access point that may be absent: Rust's `Option<u8>`.
 pub enum SapOption {

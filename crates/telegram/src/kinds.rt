@@ -1,13 +1,14 @@
+// The kinds of telegrams, and the small questions that the Rust answers of them. Promise: specs/Questions.antt.
 ghost use mathlib.Core.Path.{_≡_};
-ghost use Rattle.codes.specs.Part.{shownPart};
+ghost use Rattle.ground.specs.Part.{shownPart};
 ghost use Rattle.telegram.specs.Questions.{sourceOf, destinationOf, statusRequestOf, responseOf};
 use crate::header::AddressOption;
 use crate::header::DataTelegramHeader;
-use codes::Address;
 use codes::FunctionCode;
-use codes::Part;
 use codes::RequestType;
 use codes::ResponseStatusFound;
+use ground::Address;
+use ground::Part;
 
 // A data telegram. Its PDU is a part of the bytes that it was read from.
 pub struct DataTelegram {

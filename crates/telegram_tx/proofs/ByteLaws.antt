@@ -1,5 +1,4 @@
--- Every byte of what is written is one: below 256.
--- Assumes nothing.
+-- Every byte of what is written is one: below 256. Read `telegram-bytes`.
 use Prim.Native.Nat.{ℕ, _<_, _≤_}
 use mathlib.Core.List.{List, [], _∷_, _++_}
 use native.Mathlib.Omega.{arith}
@@ -9,7 +8,7 @@ use Rattle.codes.proofs.FunctionCodeLaws.{code-byte-small}
 use Rattle.codes.specs.Checksums.{checksumOf}
 use Rattle.telegram.proofs.ByteLaws.{empty-bytes, one-more-byte, append-bytes}
 use Rattle.telegram.specs.Begins.{Bytes}
-use Rattle.telegram.specs.Delimiters.{SD1, SD2, SD3, SD4, SC, ED}
+use Rattle.codes.specs.Delimiters.{SD1, SD2, SD3, SD4, SC, ED}
 use Rattle.telegram.specs.Picture.{addressByte, sapBytes, headBytes, coveredBytes, lengthByte, startBytes, telegramBytes, tokenBytes, confirmationBytes}
 use Rattle.telegram.specs.declared.header.DataTelegramHeader.{DataTelegramHeader}
 use Rattle.telegram.specs.declared.header.SapOption.{SapOption}
@@ -31,7 +30,9 @@ start-bytes l h =
     any-start Bytes l (one SD1 (lit< tt)) (one SD3 (lit< tt)) (three-more SD2 l l (SD2 ∷ []) (lit< tt) h h (one SD2 (lit< tt)))
 
 -- A data telegram: its SAPs and its PDU are bytes, as they are where they come from the machine.
-module _ (h : DataTelegramHeader) (pdu : List ℕ) (da : h .da .0 ≤ 127) (sa : h .sa .0 ≤ 127) (dsap : Bytes (sapBytes (h .dsap))) (ssap : Bytes (sapBytes (h .ssap))) (body : Bytes pdu) (short : lengthByte h pdu ≤ 249) where
+module _
+    (h : DataTelegramHeader) (pdu : List ℕ) (da : h .da .0 ≤ 127) (sa : h .sa .0 ≤ 127)
+    (dsap : Bytes (sapBytes (h .dsap))) (ssap : Bytes (sapBytes (h .ssap))) (body : Bytes pdu) (short : lengthByte h pdu ≤ 249) where
   head-bytes : Bytes (headBytes h)
   unfolding headBytes
   head-bytes =

@@ -1,5 +1,4 @@
 -- Laws of a telegram's start, and of how long its head, its start and the whole are.
--- Assumes nothing.
 use Prim.Native.Nat.{ℕ, _+_, _≤_}
 use mathlib.Core.Path.{_≡_}
 use mathlib.Core.List.{List, [], _∷_}
@@ -7,12 +6,14 @@ use native.Mathlib.Omega.{arith}
 use lib.Dec.{eqb, lit≤}
 use lib.ListN.{length, length-append}
 use borrow.Author.Tests.{ne-eqb}
-use Rattle.codes.proofs.PickLaws.{picked}
-use Rattle.telegram.specs.Delimiters.{SD1, SD2, SD3}
+use Rattle.ground.proofs.PickLaws.{picked}
+use Rattle.codes.specs.Delimiters.{SD1, SD2, SD3}
 use Rattle.telegram.specs.Picture.{sapBytes, headBytes, coveredBytes, lengthByte, startBytes, telegramBytes}
 use Rattle.telegram.specs.declared.header.DataTelegramHeader.{DataTelegramHeader}
 
-pub head-length : (h : DataTelegramHeader) → length (headBytes h) ≡ 3 + length (sapBytes (h .dsap)) + length (sapBytes (h .ssap))
+pub head-length :
+    (h : DataTelegramHeader)
+    → length (headBytes h) ≡ 3 + length (sapBytes (h .dsap)) + length (sapBytes (h .ssap))
 unfolding headBytes
 head-length h = rw length-append (omega arith)
 
@@ -21,7 +22,9 @@ unfolding lengthByte coveredBytes
 length-byte-split h pdu = length-append (headBytes h) pdu
 
 -- "Length byte = PDU + SAPs + 3"
-pub length-byte-is : (h : DataTelegramHeader) (pdu : List ℕ) → lengthByte h pdu ≡ length pdu + length (sapBytes (h .dsap)) + length (sapBytes (h .ssap)) + 3
+pub length-byte-is :
+    (h : DataTelegramHeader) (pdu : List ℕ)
+    → lengthByte h pdu ≡ length pdu + length (sapBytes (h .dsap)) + length (sapBytes (h .ssap)) + 3
 length-byte-is h pdu = rw (length-byte-split, head-length) (omega arith)
 
 -- The start of each length, and what holds of all three holds of any start.
@@ -37,7 +40,9 @@ pub start-else : (l : ℕ) → (l ≡ 3 → ⊥) → (l ≡ 11 → ⊥) → star
 unfolding startBytes
 start-else l p q = rw (ne-eqb l 3 p, ne-eqb l 11 q)
 
-pub any-start : (P : List ℕ → Type 0) (l : ℕ) → P (SD1 ∷ []) → P (SD3 ∷ []) → P (SD2 ∷ l ∷ l ∷ SD2 ∷ []) → P (startBytes l)
+pub any-start :
+    (P : List ℕ → Type 0) (l : ℕ) → P (SD1 ∷ []) → P (SD3 ∷ []) → P (SD2 ∷ l ∷ l ∷ SD2 ∷ [])
+    → P (startBytes l)
 unfolding startBytes
 any-start P l sd1 sd3 sd2 = picked P (eqb l 3) (λ e. sd1) (λ e. picked P (eqb l 11) (λ f. sd3) (λ f. sd2))
 
@@ -48,7 +53,9 @@ start-short : (l : ℕ) → length (startBytes l) ≤ 4
 start-short l = any-start (λ s. length s ≤ 4) l (lit≤ tt) (lit≤ tt) (lit≤ tt)
 
 -- "Totals: SD1 6, SD3 14, SD2 L + 6": the start, what the length byte counts, the checksum and the end delimiter.
-pub telegram-length : (h : DataTelegramHeader) (pdu : List ℕ) → length (telegramBytes h pdu) ≡ length (startBytes (lengthByte h pdu)) + lengthByte h pdu + 2
+pub telegram-length :
+    (h : DataTelegramHeader) (pdu : List ℕ)
+    → length (telegramBytes h pdu) ≡ length (startBytes (lengthByte h pdu)) + lengthByte h pdu + 2
 unfolding telegramBytes lengthByte
 telegram-length h pdu = rw (length-append, length-append)
 

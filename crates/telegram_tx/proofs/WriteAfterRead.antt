@@ -1,6 +1,5 @@
 -- Writing the telegram that bytes begin with: it is sent, as the bytes that were read, exactly for what a writer would write and a length
--- byte of at most 249. It rests on the reader's theorem that these telegrams' bytes are the same.
--- Assumes nothing.
+-- byte of at most 249 (`written-back`, `only-written-back`). It rests on the reader's theorem that these telegrams' bytes are the same.
 use Prim.Native.Nat.{ℕ, _≤_}
 use mathlib.Core.Bool.{Bool, true, false}
 use mathlib.Core.List.{List, _++_}
@@ -10,7 +9,8 @@ use lib.Dec.{ltb}
 use lib.ListN.{length, take, drop}
 use lib.Seq.{length-take-le, take-at}
 use borrow.Author.Tests.{ltb-true, ltb-false}
-use Rattle.codes.specs.Part.{shownPart}
+use Rattle.ground.proofs.Injective.{zero-one}
+use Rattle.ground.specs.Part.{shownPart}
 use Rattle.telegram.proofs.DrawnLaws.{picture-reads}
 use Rattle.telegram.proofs.ReadingLaws.{total-within, addresses-small}
 use Rattle.telegram.proofs.Theorems.{written-back-exactly}
@@ -24,7 +24,8 @@ use Rattle.telegram_tx.specs.Writing.{replyOf}
 use Rattle.telegram_tx.specs.WrittenBack.{WrittenBack}
 use Rattle.telegram_tx.specs.declared.tx.TelegramTxResponse.{TelegramTxResponse}
 
-module _ {s : List ℕ} {d : DataTelegram} {n : ℕ} (b : Begins document01 s (Data d) n) (buf : List ℕ) (room : n ≤ length buf) where
+module _
+    {s : List ℕ} {d : DataTelegram} {n : ℕ} (b : Begins document01 s (Data d) n) (buf : List ℕ) (room : n ≤ length buf) where
   read : readOf s ≡ whole (Data d) n
   read = picture-reads b
 
@@ -40,25 +41,30 @@ module _ {s : List ℕ} {d : DataTelegram} {n : ℕ} (b : Begins document01 s (D
       record { answer = rw long at answer; buffer = rw (answer, long, same) }
 
   -- refused where the length byte is above 249
-  short-enough : (t : Bool) → ltb 249 (lengthByte (d .h) (shownPart (d .pdu) s)) ≡ t → WrittenBack s d n buf → lengthByte (d .h) (shownPart (d .pdu) s) ≤ 249
+  short-enough :
+      (t : Bool) → ltb 249 (lengthByte (d .h) (shownPart (d .pdu) s)) ≡ t → WrittenBack s d n buf
+      → lengthByte (d .h) (shownPart (d .pdu) s) ≤ 249
   short-enough true e back =
       let small = addresses-small s read in
       let refusal = refused-9 (d .h) (shownPart (d .pdu) s) (length buf) (small .0) (small .1) (ltb-true _ _ e) in
       let given = back .answer in
-      let z : _≡_ {A = ℕ} 0 1 = cc in
-      absurd (omega arith)
+      absurd (zero-one (cc))
   short-enough false e back = ltb-false _ _ e
 
-  room-enough : (t : Bool) → ltb (length buf) (length (telegramBytes (d .h) (shownPart (d .pdu) s))) ≡ t → lengthByte (d .h) (shownPart (d .pdu) s) ≤ 249 → WrittenBack s d n buf → length (telegramBytes (d .h) (shownPart (d .pdu) s)) ≤ length buf
+  room-enough :
+      (t : Bool) → ltb (length buf) (length (telegramBytes (d .h) (shownPart (d .pdu) s))) ≡ t
+      → lengthByte (d .h) (shownPart (d .pdu) s) ≤ 249 → WrittenBack s d n buf
+      → length (telegramBytes (d .h) (shownPart (d .pdu) s)) ≤ length buf
   room-enough true e short back =
       let small = addresses-small s read in
       let refusal = refused-10 (d .h) (shownPart (d .pdu) s) (length buf) (small .0) (small .1) short (ltb-true _ _ e) in
       let given = back .answer in
-      let z : _≡_ {A = ℕ} 0 1 = cc in
-      absurd (omega arith)
+      absurd (zero-one (cc))
   room-enough false e short back = ltb-false _ _ e
 
-  pub only-written-back : WrittenBack s d n buf → AsWritten (b .draws) × (lengthByte (d .h) (shownPart (d .pdu) s) ≤ 249)
+  pub only-written-back :
+      WrittenBack s d n buf
+      → AsWritten (b .draws) × (lengthByte (d .h) (shownPart (d .pdu) s) ≤ 249)
   only-written-back back =
       let small = addresses-small s read in
       let short = short-enough (ltb 249 (lengthByte (d .h) (shownPart (d .pdu) s))) refl back in

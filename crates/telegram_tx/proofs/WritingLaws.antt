@@ -1,19 +1,18 @@
 -- Laws of the answer of writing and of the buffer that it leaves: one for each refusal, and one for what is sent.
--- Assumes nothing.
 use Prim.Native.Nat.{ℕ, _<_, _≤_}
-use mathlib.Core.Path.{_≡_, sym, ap}
+use mathlib.Core.Path.{_≡_, refl, sym, ap}
 use mathlib.Core.Bool.{or-true}
 use mathlib.Core.List.{List, _++_}
-use native.Mathlib.Omega.{arith}
 use lib.ListN.{length, drop}
 use lib.Seq.{sets}
 use borrow.Author.Tests.{lt-ltb, le-ltb}
-use Rattle.codes.proofs.NumberLaws.{number-injective}
-use Rattle.codes.specs.Refusals.{Outcome, gives, refused}
+use Rattle.ground.proofs.Injective.{injective}
+use Rattle.ground.proofs.RefusalLaws.{refusalOf, refusal-again}
+use Rattle.ground.specs.Refusals.{OrRefused, gives, refused}
 use Rattle.telegram.specs.Picture.{lengthByte, telegramBytes}
 use Rattle.telegram.specs.declared.header.AddressOption.{AddressOption}
 use Rattle.telegram.specs.declared.header.DataTelegramHeader.{DataTelegramHeader}
-use Rattle.telegram_tx.proofs.PlacingLaws.{stores-placed, front-placed}
+use Rattle.telegram_tx.proofs.LeafLaws.{sets-stored, front-stored}
 use Rattle.telegram_tx.specs.Writing.{shownWriting, replyOf, sendOf, writeOf, leftOf}
 use Rattle.telegram_tx.specs.declared.tx.TelegramTxResponse.{TelegramTxResponse}
 use Rattle.telegram_tx.specs.declared.tx.TelegramTxResult.{TelegramTxResult}
@@ -24,7 +23,9 @@ pub refused-10-of : (t : List ℕ) (reply : AddressOption) (room : ℕ) → room
 unfolding sendOf
 refused-10-of t reply room p = rw (lt-ltb room (length t) p)
 
-pub sent-of : (t : List ℕ) (reply : AddressOption) (room : ℕ) → length t ≤ room → sendOf t reply room ≡ gives (record { «bytes_sent» = length t; «expects_reply» = reply })
+pub sent-of :
+    (t : List ℕ) (reply : AddressOption) (room : ℕ) → length t ≤ room
+    → sendOf t reply room ≡ gives (record { «bytes_sent» = length t; «expects_reply» = reply })
 unfolding sendOf
 sent-of t reply room p = rw (le-ltb room (length t) p)
 
@@ -49,28 +50,44 @@ module _ (h : DataTelegramHeader) (pdu : List ℕ) (room : ℕ) (da : h .da .0 �
       (refused-10-of (telegramBytes h pdu) (replyOf (h .da) (h .fc)) room q)
 
   -- Addresses up to 127, a length byte up to 249 and enough room: the telegram is sent.
-  pub sent : lengthByte h pdu ≤ 249 → length (telegramBytes h pdu) ≤ room → writeOf h pdu room ≡ gives (record { «bytes_sent» = length (telegramBytes h pdu); «expects_reply» = replyOf (h .da) (h .fc) })
+  pub sent :
+      lengthByte h pdu ≤ 249 → length (telegramBytes h pdu) ≤ room
+      → writeOf h pdu room
+      ≡ gives (record { «bytes_sent» = length (telegramBytes h pdu); «expects_reply» = replyOf (h .da) (h .fc) })
   unfolding writeOf
   sent p q =
       rw (le-ltb 127 (h .da .0) da, le-ltb 127 (h .sa .0) sa, le-ltb 249 (lengthByte h pdu) p)
       (sent-of (telegramBytes h pdu) (replyOf (h .da) (h .fc)) room q)
 
 -- A refused call leaves the buffer as it came; what is sent stands at its front.
-pub refused-stays : (n : ℕ) (w : Outcome TelegramTxResponse) (t buf : List ℕ) → w ≡ refused n → (refused n ≡ w) × (buf ≡ leftOf w t buf)
+pub refused-stays :
+    (n : ℕ) (w : OrRefused TelegramTxResponse) (t buf : List ℕ) → w ≡ refused n
+    → (refused n ≡ w) × (buf ≡ leftOf w t buf)
 refused-stays n w t buf e = (sym e, rw e)
 
-pub sent-stands : (response : TelegramTxResponse) (w : Outcome TelegramTxResponse) (t buf after : List ℕ) → w ≡ gives response → after ≡ t ++ drop (length t) buf → (gives response ≡ w) × (after ≡ leftOf w t buf)
+pub sent-stands :
+    (response : TelegramTxResponse) (w : OrRefused TelegramTxResponse) (t buf after : List ℕ)
+    → w ≡ gives response → after ≡ t ++ drop (length t) buf
+    → (gives response ≡ w) × (after ≡ leftOf w t buf)
 sent-stands response w t buf after e f = (sym e, rw e f)
 
 -- Bytes stored at the front of a buffer with room for them are sent.
-pub stored-sent : (t : List ℕ) (reply : AddressOption) (response : TelegramTxResponse) (buf : List ℕ) → length t ≤ length buf → response ≡ record { «bytes_sent» = length t; «expects_reply» = reply } → (gives response ≡ sendOf t reply (length buf)) × (sets buf 0 t ≡ leftOf (sendOf t reply (length buf)) t buf)
+pub stored-sent :
+    (t : List ℕ) (reply : AddressOption) (response : TelegramTxResponse) (buf : List ℕ)
+    → length t ≤ length buf → response ≡ record { «bytes_sent» = length t; «expects_reply» = reply }
+    → (gives response ≡ sendOf t reply (length buf)) × (sets buf 0 t ≡ leftOf (sendOf t reply (length buf)) t buf)
 stored-sent t reply response buf room e =
     sent-stands response (sendOf t reply (length buf)) t buf (sets buf 0 t) (rw e (sent-of t reply (length buf) room))
-    (front-placed room (stores-placed buf 0 t) .1)
+    (front-stored room (sets-stored buf 0 t) .1)
 
--- A promise through `shownWriting` leaves one answer.
+-- What the writer answers is the one that its answer, as it is shown, leads back to.
+abbrev writingBack : OrRefused TelegramTxResponse → TelegramTxResult
+writingBack (gives response) = Sent response
+writingBack (refused n) = Refused (refusalOf n)
+
+writing-again : (x : TelegramTxResult) → writingBack (shownWriting x) ≡ x
+writing-again (Sent response) = refl
+writing-again (Refused r) = ap Refused (refusal-again r)
+
 pub shown-writing-injective : (x y : TelegramTxResult) → shownWriting x ≡ shownWriting y → x ≡ y
-shown-writing-injective (Sent a) (Sent b) e = let same : a ≡ b = cc in ap Sent same
-shown-writing-injective (Sent a) (Refused q) e = let z : _≡_ {A = ℕ} 0 1 = cc in absurd (omega arith)
-shown-writing-injective (Refused p) (Sent b) e = let z : _≡_ {A = ℕ} 0 1 = cc in absurd (omega arith)
-shown-writing-injective (Refused p) (Refused q) e = ap Refused (number-injective p q (cc))
+shown-writing-injective = injective shownWriting writingBack writing-again

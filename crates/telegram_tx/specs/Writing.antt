@@ -1,14 +1,14 @@
--- Document 01, "Writing": the answer of each call that writes a telegram, and the whole buffer that it leaves.
--- Assumes nothing.
+-- Document 01, "Writing": the answer of each call that writes a telegram, `writeOf`, and the whole buffer that it leaves, `bufferOf`.
 use Prim.Native.Nat.{ℕ}
 use mathlib.Core.Bool.{_||_}
 use mathlib.Core.List.{List, _++_}
 use lib.Dec.{ltb}
 use lib.ListN.{length, drop}
-use Rattle.codes.specs.Pick.{if}
-use Rattle.codes.specs.Refusals.{Outcome, gives, refused, numberOf}
+use Rattle.ground.specs.Pick.{if}
+use Rattle.ground.specs.Refusals.{OrRefused, gives, refused, numberOf}
+use Rattle.codes.specs.FunctionCodes.{responseCode}
 use Rattle.codes.specs.RequestTypes.{expectsReply}
-use Rattle.codes.specs.declared.address.Address.{Address}
+use Rattle.ground.specs.declared.address.Address.{Address}
 use Rattle.codes.specs.declared.frame_count_bit.FrameCountBit.the-variants.{Inactive}
 use Rattle.codes.specs.declared.function_code.FunctionCode.{FunctionCode}
 use Rattle.codes.specs.declared.function_code.FunctionCode.the-variants.{Request, Response}
@@ -25,7 +25,7 @@ use Rattle.telegram_tx.specs.declared.tx.TelegramTxResult.{TelegramTxRes
 use Rattle.telegram_tx.specs.declared.tx.TelegramTxResult.the-variants.{Sent, Refused}
 
 -- what a writer answers, with document 01's number
-abbrev pub shownWriting : TelegramTxResult → Outcome TelegramTxResponse
+abbrev pub shownWriting : TelegramTxResult → OrRefused TelegramTxResponse
 shownWriting (Sent response) = gives response
 shownWriting (Refused refusal) = refused (numberOf refusal)
 
@@ -35,26 +35,26 @@ replyOf da (Request fcb req) = if (expectsReply req) (Some da) None
 replyOf da (Response state status) = None
 
 -- "buffer too short": 10; else the telegram's bytes are sent
-unfoldable pub sendOf : List ℕ → AddressOption → ℕ → Outcome TelegramTxResponse
+unfoldable pub sendOf : List ℕ → AddressOption → ℕ → OrRefused TelegramTxResponse
 sendOf t reply room =
     if (ltb room (length t)) (refused 10) (gives (record { «bytes_sent» = length t; «expects_reply» = reply }))
 
 -- "da or sa above 127": 8; "length byte above 249": 9; "buffer too short": 10; "Orders: writing 8, 9, 10"
-unfoldable pub writeOf : DataTelegramHeader → List ℕ → ℕ → Outcome TelegramTxResponse
+unfoldable pub writeOf : DataTelegramHeader → List ℕ → ℕ → OrRefused TelegramTxResponse
 writeOf h pdu room =
     if (ltb 127 (h .da .0) || ltb 127 (h .sa .0)) (refused 8)
     (if (ltb 249 (lengthByte h pdu)) (refused 9) (sendOf (telegramBytes h pdu) (replyOf (h .da) (h .fc)) room))
 
 -- a token takes whole bytes, and no reply is expected to it
-abbrev pub writeTokenOf : Address → Address → ℕ → Outcome TelegramTxResponse
+abbrev pub writeTokenOf : Address → Address → ℕ → OrRefused TelegramTxResponse
 writeTokenOf da sa room = sendOf (tokenBytes (da .0) (sa .0)) None room
 
 -- nor to a short confirmation
-abbrev pub writeConfirmationOf : ℕ → Outcome TelegramTxResponse
+abbrev pub writeConfirmationOf : ℕ → OrRefused TelegramTxResponse
 writeConfirmationOf room = sendOf confirmationBytes None room
 
 -- the buffer after a call: the telegram at its front, and "bytes past the telegram stay"; as it came where it was refused
-abbrev pub leftOf : Outcome TelegramTxResponse → List ℕ → List ℕ → List ℕ
+abbrev pub leftOf : OrRefused TelegramTxResponse → List ℕ → List ℕ → List ℕ
 leftOf (gives response) t buf = t ++ drop (length t) buf
 leftOf (refused n) t buf = buf
 
@@ -80,4 +80,4 @@ statusRequest da sa = plainHeader da sa (Request Inactive FdlStatus)
 
 -- its response
 abbrev pub statusResponse : Address → Address → ResponseState → ResponseStatus → DataTelegramHeader
-statusResponse da sa state status = plainHeader da sa (Response state status)
+statusResponse da sa state status = plainHeader da sa (responseCode state status)

@@ -1,11 +1,13 @@
+// The leaves that write into the buffer, each at a place, and give the next. Promise, among private functions: `Covers` in
+// specs/Leaves.antt.
 ghost use mathlib.Core.Path.{_≡_};
 ghost use mathlib.Core.List.{[], _∷_, _++_};
 ghost use Prim.Native.Nat.{_+_, _%_, _≤_};
 ghost use lib.ListN.{length, drop};
 ghost use Rattle.codes.specs.Checksums.{sumOf};
 ghost use Rattle.telegram.specs.Picture.{addressByte, sapBytes};
-ghost use Rattle.telegram_tx.specs.Placing.{Covers};
-use codes::Address;
+ghost use Rattle.telegram_tx.specs.Leaves.{Covers};
+use ground::Address;
 use std::num::wrapping_add_u8;
 use telegram::SapOption;
 
@@ -51,7 +53,8 @@ pub(crate) fn put_sap(buf: &mut [u8], place: Place, sap: SapOption) -> Place
 // Copies and sums in one loop: the bytes just written are not read again for the checksum.
 fn copy_sum(src: &[u8], sum: u8, dst: &mut [u8]) -> u8
     requires { ⌜ length (now src) ≤ length (now dst) ⌝ }
-    ensures { λ r. ⌜ (r ≡ (sum + sumOf (now (src .entry))) % 256) × (now (dst .exit) ≡ now (src .entry) ++ drop (length (now (src .entry))) (now (dst .entry))) ⌝ }
+    ensures { λ r. ⌜ (r ≡ (sum + sumOf (now (src .entry))) % 256)
+        × (now (dst .exit) ≡ now (src .entry) ++ drop (length (now (src .entry))) (now (dst .entry))) ⌝ }
 {
     let mut total = sum;
     let mut i = 0;

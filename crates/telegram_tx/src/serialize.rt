@@ -1,11 +1,12 @@
+// A data telegram, written part by part. Promise, among private functions: `Fitted` in specs/Leaves.antt, of `telegramBytes`.
 ghost use mathlib.Core.Path.{_≡_};
 ghost use mathlib.Core.List.{[], _∷_};
 ghost use Prim.Native.Nat.{_+_, _≤_};
 ghost use lib.ListN.{length};
 ghost use Rattle.codes.specs.FunctionCodes.{codeByte};
-ghost use Rattle.telegram.specs.Delimiters.{ED, SD2};
+ghost use Rattle.codes.specs.Delimiters.{ED, SD2};
 ghost use Rattle.telegram.specs.Picture.{addressByte, sapBytes, headBytes, lengthByte, startBytes, telegramBytes};
-ghost use Rattle.telegram_tx.specs.Placing.{Placed, Covers, Fitted, Writable};
+ghost use Rattle.telegram_tx.specs.Leaves.{Stored, Covers, Fitted, Writable};
 use crate::put::Place;
 use crate::put::put_address;
 use crate::put::put_byte;
@@ -36,7 +37,7 @@ pub(crate) fn length_byte(header: DataTelegramHeader, pdu: &[u8]) -> usize
 }
 
 // The start of a telegram with length byte l, where the whole of it has room. Else nothing is written, and 0 given. The room is tested here,
-// beside the form of the start on which it depends, so that the form is told once.
+// beside the form of the start on which it depends, so that the form is decided once.
 fn put_start(buf: &mut [u8], l: usize) -> usize
     requires { ⌜ l ≤ 249 ⌝ }
     ensures { λ r. ⌜ Fitted (now (buf .entry)) (length (startBytes l) + l + 2) (startBytes l) r (now (buf .exit)) ⌝ }
@@ -67,7 +68,7 @@ fn put_start(buf: &mut [u8], l: usize) -> usize
 // The start of a telegram of any other length.
 fn put_lengths(buf: &mut [u8], l: u8) -> usize
     requires { ⌜ 4 ≤ length (now buf) ⌝ }
-    ensures { λ r. ⌜ Placed (now (buf .entry)) 0 (SD2 ∷ l ∷ l ∷ SD2 ∷ []) r (now (buf .exit)) ⌝ }
+    ensures { λ r. ⌜ Stored (now (buf .entry)) 0 (SD2 ∷ l ∷ l ∷ SD2 ∷ []) r (now (buf .exit)) ⌝ }
 {
     buf[0] = SD2;
     buf[1] = l;
@@ -79,7 +80,9 @@ fn put_lengths(buf: &mut [u8], l: u8) -> usize
 // da, sa and fc.
 fn put_fixed(buf: &mut [u8], place: Place, header: DataTelegramHeader) -> Place
     requires { ⌜ (header .da .0 ≤ 127) × (header .sa .0 ≤ 127) × (place .at + 3 ≤ length (now buf)) ⌝ }
-    ensures { λ r. ⌜ Covers (now (buf .entry)) place (addressByte (header .da .0) (header .dsap) ∷ addressByte (header .sa .0) (header .ssap) ∷ codeByte (header .fc) ∷ []) r (now (buf .exit)) ⌝ }
+    ensures { λ r. ⌜ Covers (now (buf .entry)) place
+        (addressByte (header .da .0) (header .dsap) ∷ addressByte (header .sa .0) (header .ssap) ∷ codeByte (header .fc) ∷ [])
+        r (now (buf .exit)) ⌝ }
 {
     let dsap = header.dsap;
     let ssap = header.ssap;
@@ -102,7 +105,7 @@ fn put_head(buf: &mut [u8], place: Place, header: DataTelegramHeader) -> Place
 
 fn put_end(buf: &mut [u8], place: Place) -> usize
     requires { ⌜ place .at + 2 ≤ length (now buf) ⌝ }
-    ensures { λ r. ⌜ Placed (now (buf .entry)) (place .at) (place .sum ∷ ED ∷ []) r (now (buf .exit)) ⌝ }
+    ensures { λ r. ⌜ Stored (now (buf .entry)) (place .at) (place .sum ∷ ED ∷ []) r (now (buf .exit)) ⌝ }
 {
     let at = place.at;
     buf[at] = place.sum;
@@ -113,7 +116,8 @@ fn put_end(buf: &mut [u8], place: Place) -> usize
 // Writes a data telegram with length byte l at the buffer's front, and gives its length. Where it has no room nothing is written, and 0 given.
 pub(crate) fn serialize(header: DataTelegramHeader, pdu: &[u8], l: usize, buf: &mut [u8]) -> usize
     requires { ⌜ Writable header (now pdu) l ⌝ }
-    ensures { λ r. ⌜ Fitted (now (buf .entry)) (length (telegramBytes header (now (pdu .entry)))) (telegramBytes header (now (pdu .entry))) r (now (buf .exit)) ⌝ }
+    ensures { λ r. ⌜ Fitted (now (buf .entry)) (length (telegramBytes header (now (pdu .entry))))
+        (telegramBytes header (now (pdu .entry))) r (now (buf .exit)) ⌝ }
 {
     let at = put_start(buf, l);
     if at == 0 {

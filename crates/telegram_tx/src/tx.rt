@@ -1,3 +1,5 @@
+// The calls that write a telegram into a lent buffer: the Rust's `TelegramTx`. Promise: `writeOf` and `bufferOf` in specs/Writing.antt,
+// and their twins for a token and a short confirmation.
 ghost use mathlib.Core.Path.{_≡_};
 ghost use mathlib.Core.List.{[]};
 ghost use Prim.Native.Nat.{_≤_};
@@ -5,15 +7,15 @@ ghost use lib.ListN.{length};
 ghost use Rattle.telegram_tx.specs.Writing.{shownWriting, replyOf, writeOf, bufferOf, writeTokenOf, tokenBufferOf, writeConfirmationOf, confirmationBufferOf, plainHeader, statusRequest, statusResponse};
 use crate::serialize::length_byte;
 use crate::serialize::serialize;
-use codes::Address;
 use codes::FrameCountBit;
 use codes::FunctionCode;
-use codes::Refusal;
 use codes::RequestType;
 use codes::ResponseState;
 use codes::ResponseStatus;
 use codes::consts::SC;
 use codes::consts::SD4;
+use ground::Address;
+use ground::Refusal;
 use telegram::AddressOption;
 use telegram::DataTelegramHeader;
 use telegram::SapOption;
@@ -75,7 +77,8 @@ fn reply_of(da: Address, fc: FunctionCode) -> AddressOption
 // A data telegram whose addresses are fit for it.
 fn send_addressed(header: DataTelegramHeader, pdu: &[u8], buf: &mut [u8]) -> TelegramTxResult
     requires { ⌜ (header .da .0 ≤ 127) × (header .sa .0 ≤ 127) ⌝ }
-    ensures { λ r. ⌜ (shownWriting r ≡ writeOf header (now (pdu .entry)) (length (now (buf .entry)))) × (now (buf .exit) ≡ bufferOf header (now (pdu .entry)) (now (buf .entry))) ⌝ }
+    ensures { λ r. ⌜ (shownWriting r ≡ writeOf header (now (pdu .entry)) (length (now (buf .entry))))
+        × (now (buf .exit) ≡ bufferOf header (now (pdu .entry)) (now (buf .entry))) ⌝ }
 {
     let l = length_byte(header, pdu);
     if 249 < l {
@@ -97,7 +100,8 @@ pub fn send_data_telegram(
     pdu: &[u8],
     buf: &mut [u8],
 ) -> TelegramTxResult
-    ensures { λ r. ⌜ (shownWriting r ≡ writeOf header (now (pdu .entry)) (length (now (buf .entry)))) × (now (buf .exit) ≡ bufferOf header (now (pdu .entry)) (now (buf .entry))) ⌝ }
+    ensures { λ r. ⌜ (shownWriting r ≡ writeOf header (now (pdu .entry)) (length (now (buf .entry))))
+        × (now (buf .exit) ≡ bufferOf header (now (pdu .entry)) (now (buf .entry))) ⌝ }
 {
     let da = header.da;
     let sa = header.sa;
@@ -112,7 +116,8 @@ pub fn send_data_telegram(
 
 // Whole bytes: a token's addresses are not tested.
 pub fn send_token_telegram(da: Address, sa: Address, buf: &mut [u8]) -> TelegramTxResult
-    ensures { λ r. ⌜ (shownWriting r ≡ writeTokenOf da sa (length (now (buf .entry)))) × (now (buf .exit) ≡ tokenBufferOf da sa (now (buf .entry))) ⌝ }
+    ensures { λ r. ⌜ (shownWriting r ≡ writeTokenOf da sa (length (now (buf .entry))))
+        × (now (buf .exit) ≡ tokenBufferOf da sa (now (buf .entry))) ⌝ }
 {
     if buf.len() < 3 {
         return TelegramTxResult::Refused(Refusal::NoRoom);
@@ -124,7 +129,8 @@ pub fn send_token_telegram(da: Address, sa: Address, buf: &mut [u8]) -> Telegram
 }
 
 pub fn send_short_confirmation(buf: &mut [u8]) -> TelegramTxResult
-    ensures { λ r. ⌜ (shownWriting r ≡ writeConfirmationOf (length (now (buf .entry)))) × (now (buf .exit) ≡ confirmationBufferOf (now (buf .entry))) ⌝ }
+    ensures { λ r. ⌜ (shownWriting r ≡ writeConfirmationOf (length (now (buf .entry))))
+        × (now (buf .exit) ≡ confirmationBufferOf (now (buf .entry))) ⌝ }
 {
     if buf.len() < 1 {
         return TelegramTxResult::Refused(Refusal::NoRoom);
@@ -135,7 +141,8 @@ pub fn send_short_confirmation(buf: &mut [u8]) -> TelegramTxResult
 
 // A data telegram without SAPs and PDU.
 fn send_plain(da: Address, sa: Address, fc: FunctionCode, buf: &mut [u8]) -> TelegramTxResult
-    ensures { λ r. ⌜ (shownWriting r ≡ writeOf (plainHeader da sa fc) [] (length (now (buf .entry)))) × (now (buf .exit) ≡ bufferOf (plainHeader da sa fc) [] (now (buf .entry))) ⌝ }
+    ensures { λ r. ⌜ (shownWriting r ≡ writeOf (plainHeader da sa fc) [] (length (now (buf .entry))))
+        × (now (buf .exit) ≡ bufferOf (plainHeader da sa fc) [] (now (buf .entry))) ⌝ }
 {
     let dsap = SapOption::None;
     let ssap = SapOption::None;
@@ -150,7 +157,8 @@ fn send_plain(da: Address, sa: Address, fc: FunctionCode, buf: &mut [u8]) -> Tel
 }
 
 pub fn send_fdl_status_request(da: Address, sa: Address, buf: &mut [u8]) -> TelegramTxResult
-    ensures { λ r. ⌜ (shownWriting r ≡ writeOf (statusRequest da sa) [] (length (now (buf .entry)))) × (now (buf .exit) ≡ bufferOf (statusRequest da sa) [] (now (buf .entry))) ⌝ }
+    ensures { λ r. ⌜ (shownWriting r ≡ writeOf (statusRequest da sa) [] (length (now (buf .entry))))
+        × (now (buf .exit) ≡ bufferOf (statusRequest da sa) [] (now (buf .entry))) ⌝ }
 {
     let request = FunctionCode::Request {
         fcb: FrameCountBit::Inactive,
@@ -166,8 +174,9 @@ pub fn send_fdl_status_response(
     status: ResponseStatus,
     buf: &mut [u8],
 ) -> TelegramTxResult
-    ensures { λ r. ⌜ (shownWriting r ≡ writeOf (statusResponse da sa state status) [] (length (now (buf .entry)))) × (now (buf .exit) ≡ bufferOf (statusResponse da sa state status) [] (now (buf .entry))) ⌝ }
+    ensures { λ r. ⌜ (shownWriting r ≡ writeOf (statusResponse da sa state status) [] (length (now (buf .entry))))
+        × (now (buf .exit) ≡ bufferOf (statusResponse da sa state status) [] (now (buf .entry))) ⌝ }
 {
-    let response = FunctionCode::Response { state, status };
+    let response = FunctionCode::new_response(state, status);
     send_plain(da, sa, response, buf)
 }

@@ -1,5 +1,4 @@
 -- Laws of `begins`: byte by byte, and as an equation of texts.
--- Assumes nothing.
 use mathlib.Core.Path.{_≡_, refl, ap, _∙_}
 use mathlib.Core.Bool.{Bool, true, false}
 use mathlib.Core.List.{List, [], _∷_, _++_}
@@ -10,8 +9,8 @@ use borrow.Author.Tests.{eqb-true, eq-eqb}
 use lib.Dec.{eqb}
 use lib.ListN.{length, getD, drop, length-drop, drop-of-length-le}
 use lib.Seq.{drop-cons, drop-drop}
-use Rattle.codes.proofs.PickLaws.{both-first, both-second}
-use Rattle.codes.specs.Pick.{if}
+use Rattle.ground.proofs.PickLaws.{both-first, both-second}
+use Rattle.ground.specs.Pick.{if}
 use Rattle.text.specs.Begins.{begins}
 
 -- the first byte is there: the rest decides

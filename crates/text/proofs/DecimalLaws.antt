@@ -1,5 +1,4 @@
 -- Laws of decimal numbers: the rule by which the digits are found, how many there are, and that reading undoes writing.
--- Assumes nothing.
 use mathlib.Core.Path.{_≡_, refl, sym, ap, ap₂, _∙_}
 use mathlib.Core.Bool.{Bool, true, false}
 use mathlib.Core.List.{List, [], _∷_, _++_, append-assoc, append-nil}
@@ -10,8 +9,8 @@ use native.Mathlib.Omega.{arith}
 use borrow.Author.Tests.{lt-ltb, le-ltb, le-leb, leb-true}
 use lib.Dec.{leb}
 use lib.ListN.{length, getD, length-append, List·getD-append}
-use Rattle.codes.proofs.PickLaws.{both-first, both-second}
-use Rattle.codes.specs.Pick.{if}
+use Rattle.ground.proofs.PickLaws.{both-first, both-second}
+use Rattle.ground.specs.Pick.{if}
 use Rattle.text.specs.Decimal.{digitOf, digits, decimalOf, valueFrom, valueOf, isDigit, digitsIn}
 
 -- ---- the rule

@@ -1,5 +1,5 @@
--- Laws that the reading of a decimal number goes by: the digits at a place, byte by byte, and when they are a number's.
--- Assumes nothing.
+-- Laws of reading a decimal number. Read `number-written` and `number-read`: a number is read just where it is written. Before them the digits at a
+-- place, byte by byte, and when they are a number's.
 use mathlib.Core.Path.{_≡_, refl, sym, ap, _∙_}
 use mathlib.Core.Bool.{Bool, true, false, not}
 use mathlib.Core.List.{List, [], _∷_, _++_, append-nil}
@@ -12,10 +12,11 @@ use borrow.Author.Tests.{eqb-true, eqb-false, eq-eqb, leb-true, le-leb, lt-leb}
 use lib.Dec.{leb, eqb}
 use lib.ListN.{length, getD, drop, length-drop, drop-of-length-le}
 use lib.Seq.{drop-cons, drop-drop, getD-drop}
-use Rattle.codes.proofs.PickLaws.{both-first, both-second}
-use Rattle.codes.specs.Pick.{if}
+use Rattle.ground.proofs.PickLaws.{both-first, both-second}
+use Rattle.ground.specs.Pick.{if}
 use Rattle.text.specs.declared.decimal.Number.the-variants.{Is, Nothing}
-use Rattle.text.specs.Decimal.{decimalOf, digits, numberAt, valueFrom, valueOf, isDigit, digitsIn, same, isDecimal, DigitsRead}
+use Rattle.text.specs.Decimal.{decimalOf, digits, numberAt, valueFrom, valueOf, isDigit, digitsIn, same, isDecimal}
+use Rattle.text.specs.Leaves.{DigitsRead}
 use Rattle.text.proofs.DecimalLaws.{decimal-one, decimal-more, decimal-head, decimal-value, digits-in-front, small-length}
 
 -- ---- the digits at a place
@@ -143,7 +144,8 @@ pub record DigitsLeft (text : List ℕ) (at limit value next : ℕ) : Type 0 whe
   pub bound : value ≤ limit + 1
 
 -- where no digit is left, the digits are read
-pub left-end : {text : List ℕ} {at limit value next : ℕ} → DigitsLeft text at limit value next → digitsIn (drop next text) ≡ [] → DigitsRead text at limit value next
+pub left-end : {text : List ℕ} {at limit value next : ℕ} → DigitsLeft text at limit value next → digitsIn (drop next text) ≡ []
+    → DigitsRead text at limit value next
 unfolding valueFrom
 left-end {value = value} k e = record {
   number = omega (arith, k .bound, rw e at (k .number));
@@ -151,8 +153,11 @@ left-end {value = value} k e = record {
 }
 
 -- one digit more is read
-pub left-turn : {text : List ℕ} {at limit value next longer : ℕ} → DigitsLeft text at limit value next → next < length text → isDigit (getD text next 0) ≡ true
-    → longer ≡ min (value * 10 + (getD text next 0 - 48)) (limit + 1) → DigitsLeft text at limit longer (next + 1)
+pub left-turn : {text : List ℕ} {at limit value next longer : ℕ} → DigitsLeft text at limit value next
+    → next < length text
+    → isDigit (getD text next 0) ≡ true
+    → longer ≡ min (value * 10 + (getD text next 0 - 48)) (limit + 1)
+    → DigitsLeft text at limit longer (next + 1)
 unfolding valueFrom
 left-turn {text} {limit = limit} {value = value} {next = next} k h e l =
     let one = digits-turn text next h e in
@@ -196,7 +201,8 @@ digits-split (b ∷ text) = go (isDigit b) (digits-split text)
     go false p = refl
 
 -- the number written at a place, with no further digit behind it, is read there
-pub number-written : (text : List ℕ) (at n limit : ℕ) (rest : List ℕ) → drop at text ≡ decimalOf n ++ rest → digitsIn rest ≡ [] → n ≤ limit
+pub number-written : (text : List ℕ) (at n limit : ℕ) (rest : List ℕ)
+    → drop at text ≡ decimalOf n ++ rest → digitsIn rest ≡ [] → n ≤ limit
     → numberAt text at limit ≡ Is n (at + length (decimalOf n))
 unfolding numberAt
 number-written text at n limit rest e stop h =
@@ -211,10 +217,13 @@ pub record NumberRead (text : List ℕ) (at limit n next : ℕ) : Type 0 where
 
 pub number-read : (text : List ℕ) (at limit n next : ℕ) → numberAt text at limit ≡ Is n next → NumberRead text at limit n next
 unfolding numberAt
-number-read text at limit n next e = go (digitsIn (drop at text)) refl (isDecimal (digitsIn (drop at text))) refl (leb (valueOf (digitsIn (drop at text))) limit) refl e
+number-read text at limit n next e =
+    let bytes = digitsIn (drop at text) in
+    go bytes refl (isDecimal bytes) refl (leb (valueOf bytes) limit) refl e
   where
     go : (bytes : List ℕ) → digitsIn (drop at text) ≡ bytes → (s : Bool) → isDecimal bytes ≡ s → (t : Bool) → leb (valueOf bytes) limit ≡ t
-        → if s (if t (Is (valueOf bytes) (at + length bytes)) Nothing) Nothing ≡ Is n next → NumberRead text at limit n next
+        → if s (if t (Is (valueOf bytes) (at + length bytes)) Nothing) Nothing ≡ Is n next
+        → NumberRead text at limit n next
     go bytes d true p true q e =
         let was : bytes ≡ decimalOf (valueOf bytes) = decimal-was bytes p in
         let value : valueOf bytes ≡ n = cc in

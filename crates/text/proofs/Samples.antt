@@ -1,5 +1,4 @@
 -- Text by example: numbers written and read, and bytes laid down at a place, computed on the definitions.
--- Assumes nothing.
 use mathlib.Core.Path.{_≡_, refl}
 use mathlib.Core.List.{[]}
 use Rattle.text.specs.declared.decimal.Number.the-variants.{Is, Nothing}

@@ -1,10 +1,9 @@
 -- Whether a text begins with given bytes.
--- Assumes nothing.
 use mathlib.Core.Bool.{Bool, true, false}
 use mathlib.Core.List.{List, [], _∷_}
 use Prim.Native.Nat.{ℕ}
 use lib.Dec.{eqb}
-use Rattle.codes.specs.Pick.{if}
+use Rattle.ground.specs.Pick.{if}
 
 -- whether the text begins with these bytes
 unfoldable pub begins : List ℕ → List ℕ → Bool

@@ -1,12 +1,11 @@
--- Decimal numbers: the digits 0 to 9 as the bytes 48 to 57, the most significant first, without leading zeros.
--- Assumes nothing.
-use mathlib.Core.Path.{_≡_}
+-- Decimal numbers: the digits 0 to 9 as the bytes 48 to 57, the most significant first, without leading zeros. Read `decimalOf`, a number as it is
+-- written, and `numberAt`, the number that is read at a place.
 use mathlib.Core.Bool.{Bool, true, false}
 use mathlib.Core.List.{List, [], _∷_, _++_}
-use Prim.Native.Nat.{ℕ, zero, suc, _+_, _-_, _*_, _/_, _%_, min}
+use Prim.Native.Nat.{ℕ, zero, suc, _+_, _-_, _*_, _/_, _%_}
 use lib.ListN.{length, drop}
 use lib.Dec.{eqb, leb, ltb}
-use Rattle.codes.specs.Pick.{if}
+use Rattle.ground.specs.Pick.{if}
 use Rattle.text.specs.declared.decimal.Number.{Number}
 use Rattle.text.specs.declared.decimal.Number.the-variants.{Is, Nothing}
 
@@ -57,8 +56,3 @@ unfoldable pub numberAt : List ℕ → ℕ → ℕ → Number
 numberAt text at limit =
     let bytes = digitsIn (drop at text) in
     if (isDecimal bytes) (if (leb (valueOf bytes) limit) (Is (valueOf bytes) (at + length bytes)) Nothing) Nothing
-
--- the digits at a place: the number that they say, one above the limit at most, and the place behind them
-pub record DigitsRead (text : List ℕ) (at limit value next : ℕ) : Type 0 where
-  pub number : value ≡ min (valueOf (digitsIn (drop at text))) (limit + 1)
-  pub place : next ≡ at + length (digitsIn (drop at text))

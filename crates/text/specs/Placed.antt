@@ -1,5 +1,4 @@
--- What a call leaves that lays bytes into a lent buffer at a place.
--- Assumes nothing.
+-- What a call leaves that lays bytes into a lent buffer at a place. Read `Placed`.
 use mathlib.Core.Path.{_≡_}
 use mathlib.Core.List.{List}
 use Prim.Native.Nat.{ℕ, _+_, min}

@@ -1,5 +1,4 @@
 -- The bytes of a quoted text, so that definitions can quote what documents quote.
--- Assumes nothing.
 use mathlib.Core.List.{List, [], _∷_}
 use Prim.Native.Char.{code}
 use Prim.Native.Nat.{ℕ}

@@ -1,8 +1,10 @@
+// Decimal numbers, laid down at a place and read at one. Promises: `decimalOf` and `numberAt` in specs/Decimal.antt.
 use crate::place::put_byte;
 ghost use mathlib.Core.Path.{_≡_};
 ghost use Prim.Native.Nat.{_+_, _-_, _*_, _<_, _≤_, min};
 ghost use lib.ListN.{length, drop};
-ghost use Rattle.text.specs.Decimal.{digitOf, decimalOf, isDigit, digitsIn, isDecimal, numberAt, DigitsRead};
+ghost use Rattle.text.specs.Decimal.{digitOf, decimalOf, isDigit, digitsIn, isDecimal, numberAt};
+ghost use Rattle.text.specs.Leaves.{DigitsRead};
 ghost use Rattle.text.specs.Placed.{Placed};
 
 // A decimal number that was read, with the place behind its digits.

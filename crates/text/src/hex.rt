@@ -1,3 +1,4 @@
+// Bytes as hexadecimal digits, laid down at a place. Promise: `hexOf` in specs/Hex.antt.
 use crate::place::clipped;
 use crate::place::put_byte;
 ghost use Prim.Native.Nat.{_<_};

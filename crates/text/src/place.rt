@@ -1,12 +1,14 @@
+// A byte or a row of bytes laid down at a place, and whether one stands there. Promises: `Placed` in specs/Placed.antt, `begins` in
+// specs/Begins.antt.
+//
+// Every call is total: what falls beyond the buffer's end is dropped, and the place then stops at one past the end. So a caller may check the room
+// first, or compare the last place with the buffer's length afterwards.
 ghost use mathlib.Core.Path.{_≡_};
 ghost use mathlib.Core.List.{[], _∷_};
 ghost use Prim.Native.Nat.{_+_, _<_, _^_, min};
 ghost use lib.ListN.{drop};
 ghost use Rattle.text.specs.Placed.{Placed};
 ghost use Rattle.text.specs.Begins.{begins};
-
-// Every call is total: what falls beyond the buffer's end is dropped, and the place then stops at one past the end. So a
-// caller may check the room first, or compare the last place with the buffer's length afterwards.
 
 pub fn put_byte(buf: &mut [u8], at: usize, b: u8) -> usize
     ensures { λ r. ⌜ Placed (now (buf .entry)) at (b ∷ []) r (now (buf .exit)) ⌝ }

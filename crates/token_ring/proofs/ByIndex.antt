@@ -1,5 +1,4 @@
--- The flag at an address after each change of the flags.
--- Assumes nothing.
+-- The flag at an address after each change of the flags: `set-at`, `swept-at`, `passed-at`, `updated-at`.
 use mathlib.Core.Bool.{Bool, true, false, _||_}
 use mathlib.Core.List.{List}
 use mathlib.Core.Path.{_≡_, refl, _∙_}
@@ -8,7 +7,7 @@ use borrow.Author.Tests.{eqb-true, eqb-false}
 use lib.ListN.{length, set}
 use lib.Seq.{getD-set-same, getD-set-other}
 use lib.Dec.{eqb}
-use Rattle.codes.specs.Pick.{if}
+use Rattle.ground.specs.Pick.{if}
 use Rattle.token_ring.specs.declared.ring.TokenRing.{TokenRing}
 use Rattle.token_ring.specs.Flags.{active, within, cleared}
 use Rattle.token_ring.specs.Rules.{wrap, swept, passed, updated, withFlags}
@@ -18,7 +17,8 @@ use Rattle.token_ring.proofs.RuleLaws.{length-swept}
 
 -- ---- one flag set or cleared
 
-set-where : (l : List Bool) (a : ℕ) (x : Bool) (i : ℕ) → a < length l → (t : Bool) → eqb i a ≡ t → active (set l a x) i ≡ if t x (active l i)
+set-where : (l : List Bool) (a : ℕ) (x : Bool) (i : ℕ) → a < length l → (t : Bool) → eqb i a ≡ t
+    → active (set l a x) i ≡ if t x (active l i)
 set-where l a x i h true e = rw (eqb-true i a e) (getD-set-same l a x false h)
 set-where l a x i h false e = getD-set-other l a i x false (eqb-false i a e)
 

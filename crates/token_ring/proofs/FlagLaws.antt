@@ -1,5 +1,4 @@
 -- Laws of the flags by index, and what one turn of each loop over them does.
--- Assumes nothing.
 use mathlib.Core.Bool.{Bool, true, false, _&&_}
 use mathlib.Core.List.{List, [], _∷_, _++_}
 use mathlib.Core.Logic.{by-cases}
@@ -15,7 +14,7 @@ use lib.ListN.{length, take, set, length-set, drop-of-length-le}
 use lib.Seq.{ext-getD, getD-set-other, drop-cons, take-suc, take-all, length-take-le}
 use lib.Dec.{leb, eqb}
 use mir.Val.{boolByte}
-use Rattle.codes.specs.Pick.{if}
+use Rattle.ground.specs.Pick.{if}
 use Rattle.token_ring.specs.Flags.{active, within, sweep, cleared, quiet, lowestFrom, highest, highestBelow}
 
 -- ---- a pick
@@ -111,7 +110,8 @@ and-counted : (x : Bool) (count : ℕ) (r : Bool) → (eqb count 0 && if x false
 and-counted true count r = and-no (eqb count 0) ∙ rw (ne-eqb (count + 1) 0 (λ e. omega arith))
 and-counted false count r = rw add-zero
 
-pub quiet-counted : (at to count : ℕ) (l : List Bool) → at < to → at < length l → (eqb count 0 && quiet at to l) ≡ (eqb (count + boolByte (active l at)) 0 && quiet (at + 1) to l)
+pub quiet-counted : (at to count : ℕ) (l : List Bool) → at < to → at < length l
+    → (eqb count 0 && quiet at to l) ≡ (eqb (count + boolByte (active l at)) 0 && quiet (at + 1) to l)
 quiet-counted at to count l h k = rw (quiet-step at to l h k, add-one) (and-counted (active l at) count (quiet (suc at) to l))
 
 pub and-yes : (b : Bool) → (b && true) ≡ b
@@ -141,7 +141,8 @@ module _ (at : ℕ) (l : List Bool) (h : at < length l) where
 
 -- ---- the highest, scanning downward
 
-highest-last : (k : ℕ) (xs : List Bool) (x : Bool) (d : Option ℕ) → highest k (xs ++ x ∷ []) d ≡ if x (some (k + length xs)) (highest k xs d)
+highest-last : (k : ℕ) (xs : List Bool) (x : Bool) (d : Option ℕ)
+    → highest k (xs ++ x ∷ []) d ≡ if x (some (k + length xs)) (highest k xs d)
 highest-last k [] x d = rw add-zero
 highest-last k (y ∷ ys) x d = rw (add-suc, ← suc-add) (highest-last (suc k) ys x (if y (some k) d))
 

@@ -1,5 +1,5 @@
--- Next and previous, and a pass that holds, said of the set of active addresses.
--- Assumes nothing.
+-- Next and previous, and a pass that holds, said of the set of active addresses: `next-active` and `next-clear`, `previous-active` and
+-- `previous-clear`, `holds-means` and `means-holds`.
 use mathlib.Core.Bool.{Bool, true, false, _&&_, _||_}
 use mathlib.Core.List.{List}
 use mathlib.Core.Logic.{_⊎_, inl, inr, ⊎-elim, by-cases}
@@ -11,7 +11,7 @@ use native.Mathlib.Omega.{arith}
 use borrow.Author.Tests.{ltb-true, leb-true, leb-false, le-leb, lt-leb, lt-ltb}
 use lib.ListN.{length, List·getD-eq-default}
 use lib.Dec.{ltb}
-use Rattle.codes.specs.Pick.{if}
+use Rattle.ground.specs.Pick.{if}
 use Rattle.token_ring.specs.Flags.{active, quiet, lowestFrom, highestBelow}
 use Rattle.token_ring.specs.Rules.{wrap, orElse, nextOf, previousOf, holds}
 use Rattle.token_ring.specs.Meaning.{Active, between, NoneBetween}
@@ -107,7 +107,8 @@ module _ (own : ℕ) (l : List Bool) (size : length l ≡ 128) where
 -- ---- a pass that holds
 
 module _ (sa da : ℕ) (l : List Bool) (size : length l ≡ 128) where
-  holds-between : (t : Bool) → wrap sa da ≡ t → if t (quiet (suc sa) 128 l && quiet 0 da l) (quiet (suc sa) da l) ≡ true → NoneBetween sa da l
+  holds-between : (t : Bool) → wrap sa da ≡ t → if t (quiet (suc sa) 128 l && quiet 0 da l) (quiet (suc sa) da l) ≡ true
+      → NoneBetween sa da l
   holds-between true h e a t =
       let w = and-parts _ _ e in
       ⊎-elim
@@ -116,7 +117,8 @@ module _ (sa da : ℕ) (l : List Bool) (size : length l ≡ 128) where
       (between-round sa da a (leb-true _ _ h) t)
   holds-between false h e a t = let p = between-rise sa da a (leb-false _ _ h) t in quiet-all (suc sa) da l e a (omega arith) (p .1)
 
-  between-holds : (t : Bool) → wrap sa da ≡ t → NoneBetween sa da l → if t (quiet (suc sa) 128 l && quiet 0 da l) (quiet (suc sa) da l) ≡ true
+  between-holds : (t : Bool) → wrap sa da ≡ t → NoneBetween sa da l
+      → if t (quiet (suc sa) 128 l && quiet 0 da l) (quiet (suc sa) da l) ≡ true
   between-holds true h n =
       rw (all-quiet (suc sa) 128 l (λ b p q. n b (rw (h, lt-ltb sa b (omega arith))))) (all-quiet 0 da l (λ b p q. n b (rw (h, lt-ltb b da q) (or-yes (ltb sa b)))))
     where

@@ -1,5 +1,4 @@
 -- Laws of the rules, in the order in which the code tests.
--- Assumes nothing.
 use mathlib.Core.Bool.{Bool, true, false, _&&_}
 use mathlib.Core.List.{List}
 use mathlib.Core.Logic.{_⊎_, inl, inr, by-cases}
@@ -11,8 +10,8 @@ use native.Mathlib.Numerals.{add-one}
 use native.Mathlib.Omega.{arith}
 use borrow.Author.Tests.{le-leb, lt-leb, le-ltb, lt-ltb}
 use lib.ListN.{length, set, length-set}
-use Rattle.codes.specs.Pick.{if}
-use Rattle.codes.specs.declared.address.Address.{Address}
+use Rattle.ground.specs.Pick.{if}
+use Rattle.ground.specs.declared.address.Address.{Address}
 use Rattle.token_ring.specs.declared.ring.Heard.{Heard}
 use Rattle.token_ring.specs.declared.ring.TokenRing.{TokenRing}
 use Rattle.token_ring.specs.Flags.{active, cleared, quiet, lowestFrom, highestBelow}

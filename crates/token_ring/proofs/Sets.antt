@@ -1,24 +1,22 @@
--- What the searches find, said of the set of active addresses: the lowest from an address upward, and the highest below one.
--- Assumes nothing.
+-- What the searches find, said of the set of active addresses: the lowest from an address upward (`lowest-found`, `lowest-none`), the highest below
+-- one (`highest-found`, `highest-none`), and nothing in a range (`quiet-all`, `all-quiet`).
 use mathlib.Core.Bool.{Bool, true, false}
 use mathlib.Core.List.{List, [], _∷_}
 use mathlib.Core.Logic.{_⊎_, inl, inr, ⊎-elim, by-cases}
 use mathlib.Core.Option.{Option, none, some}
-use mathlib.Core.Path.{_≡_, refl, sym, ap, _∙_}
+use mathlib.Core.Path.{_≡_, refl, sym, _∙_}
 use Prim.Native.Nat.{ℕ, zero, suc, _+_, _-_, _≤_, _<_}
 use native.Mathlib.Decide.{decLt}
 use native.Mathlib.Omega.{arith}
 use lib.ListN.{length, take, drop, length-take, List·getD-eq-default}
 use lib.Seq.{getD-drop, getD-take}
-use Rattle.token_ring.specs.declared.ring.Found.{Found}
-use Rattle.token_ring.specs.declared.ring.Found.the-variants.{Station, Nothing}
+use Rattle.ground.proofs.Injective.{injective, zero-one}
+use Rattle.token_ring.specs.declared.found.Found.{Found}
+use Rattle.token_ring.specs.declared.found.Found.the-variants.{Station, Nothing}
 use Rattle.token_ring.specs.Flags.{active, allClear, quiet, lowest, lowestFrom, highest, highestBelow, shownFound}
 use Rattle.token_ring.specs.Meaning.{LowestFrom, HighestBelow}
 
 -- ---- a flag is set or not
-
-pub zero-one : _≡_ {A = ℕ} 0 1 → ⊥
-zero-one e = omega arith
 
 some-same : {m n : ℕ} → _≡_ {A = Option ℕ} (some m) (some n) → m ≡ n
 some-same e = cc
@@ -182,8 +180,13 @@ all-quiet from to l h =
 
 -- ---- a search has one answer: two that are shown alike are the same
 
+abbrev foundBack : Option ℕ → Found
+foundBack (some n) = Station (record { 0 = n })
+foundBack none = Nothing
+
+found-again : (f : Found) → foundBack (shownFound f) ≡ f
+found-again (Station a) = refl
+found-again Nothing = refl
+
 pub shownFound-injective : (f g : Found) → shownFound f ≡ shownFound g → f ≡ g
-shownFound-injective (Station a) (Station b) e = ap (λ (n : ℕ). Station (record { 0 = n })) (some-same e)
-shownFound-injective (Station a) Nothing e = absurd (zero-one (cc))
-shownFound-injective Nothing (Station b) e = absurd (zero-one (cc))
-shownFound-injective Nothing Nothing e = refl
+shownFound-injective = injective shownFound foundBack found-again

@@ -1,5 +1,5 @@
--- What every list has that the calls make: it holds of the list as it is made, and each call keeps it.
--- Assumes nothing.
+-- What every list has that the calls make: `sound-new` says it of the list as it is made, and `sound-witness`, `sound-claim`, `sound-set-next` and
+-- `sound-remove` say that each call keeps it. `sound` in `station_lists` puts them together.
 use mathlib.Core.Bool.{Bool, true, false}
 use mathlib.Core.List.{List}
 use mathlib.Core.Logic.{inl, inr, ⊎-elim, by-cases}
@@ -9,12 +9,12 @@ use native.Mathlib.Decide.{decLt}
 use native.Mathlib.Omega.{arith}
 use lib.ListN.{length, set, replicate, length-set, length-replicate, getD-replicate, List·getD-eq-default}
 use lib.Seq.{getD-set-other}
-use Rattle.codes.specs.Pick.{if}
+use Rattle.ground.specs.Pick.{if}
 use Rattle.token_ring.specs.declared.las_state.LasState.{LasState}
 use Rattle.token_ring.specs.declared.ring.TokenRing.{TokenRing}
 use Rattle.token_ring.specs.Flags.{active}
 use Rattle.token_ring.specs.Rules.{swept, passed, fresh, made, inPhase, withFlags, updated, Effect, effected, witnessed, claimed, nextSet, removed}
-use Rattle.token_ring.specs.Meaning.{Active, inGap, Reached, by-new, by-witness, by-claim, by-set-next, by-remove, Sound}
+use Rattle.token_ring.specs.Meaning.{Active, inGap, Sound}
 use Rattle.token_ring.proofs.FlagLaws.{if-same}
 use Rattle.token_ring.proofs.RuleLaws.{length-passed, made-fresh, made-refused, remove-done, remove-refused, set-done, set-refused, witnessed-effect, witnessed-ignored}
 use Rattle.token_ring.proofs.Sets.{both}
@@ -36,7 +36,7 @@ low-passed sa da l h low = low-set (swept sa da l) sa true h (λ a k. swept-at s
 
 -- ---- the list as it is made
 
-clear-at : (a : ℕ) → active (replicate 128 false) a ≡ false
+pub clear-at : (a : ℕ) → active (replicate 128 false) a ≡ false
 clear-at a =
     by-cases (decLt a 128)
     (λ h. getD-replicate 128 a false false h)
@@ -123,11 +123,3 @@ sound-new own =
     by-cases (decLt 125 own)
     (λ h. rw (made-refused own h) (sound-fresh 0 (omega arith)))
     (λ h. let k : own ≤ 125 = omega arith in rw (made-fresh own k) (sound-fresh own k))
-
--- every list that the calls make
-pub sound : {r : TokenRing} → Reached r → Sound r
-sound (by-new own) = sound-new own
-sound (by-witness sa da w) = sound-witness (sound w) sa da
-sound (by-claim w) = sound-claim (sound w)
-sound (by-set-next a w) = sound-set-next (sound w) a
-sound (by-remove a w) = sound-remove (sound w) a

@@ -1,14 +1,14 @@
--- Document 01, "The station list": the 128 flags, a list with the flag of address 0 first. An address that has no flag is not active.
--- Assumes nothing.
+-- Document 01, "The station list": the 128 flags, a list with the flag of address 0 first. An address that has no flag is not active. Read
+-- `active`, `lowestFrom`, `highestBelow` and `shownFound`, which promises cite; `cleared` and `quiet` are for specs/Rules.antt.
 use mathlib.Core.Bool.{Bool, true, false, _&&_}
 use mathlib.Core.List.{List, [], _∷_}
 use mathlib.Core.Option.{Option, none, some}
 use Prim.Native.Nat.{ℕ, suc, _-_}
 use lib.ListN.{getD, take, drop}
 use lib.Dec.{leb, ltb}
-use Rattle.codes.specs.Pick.{if}
-use Rattle.token_ring.specs.declared.ring.Found.{Found}
-use Rattle.token_ring.specs.declared.ring.Found.the-variants.{Station, Nothing}
+use Rattle.ground.specs.Pick.{if}
+use Rattle.token_ring.specs.declared.found.Found.{Found}
+use Rattle.token_ring.specs.declared.found.Found.the-variants.{Station, Nothing}
 
 -- whether an address is active: its flag is set
 abbrev pub active : List Bool → ℕ → Bool

@@ -1,10 +1,9 @@
--- What private functions promise each other. No promise of a public call cites this file.
--- Assumes nothing.
+-- What private functions promise each other. Nothing here has to be believed: no promise of a public call cites it.
 use mathlib.Core.Bool.{Bool, true, false}
 use mathlib.Core.List.{List}
 use mathlib.Core.Path.{_≡_}
 use Prim.Native.Nat.{ℕ, _+_, _-_, _%_, _≤_, _<_, min}
-use Rattle.codes.specs.Pick.{if}
+use Rattle.ground.specs.Pick.{if}
 use Rattle.token_ring.specs.Flags.{active}
 use Rattle.token_ring.specs.Rules.{Effect, passed}
 use Rattle.token_ring.specs.declared.ring.Heard.{Heard}
@@ -20,17 +19,17 @@ pub record AtMost (to r : ℕ) : Type 0 where
   pub place : r ≡ min to 128
   pub bound : r ≤ 128
 
--- how far a place lies above another, and below it, round the 128 places
-abbrev pub up : ℕ → ℕ → ℕ
-up from at = (at + 128 - from) % 128
-
-abbrev pub down : ℕ → ℕ → ℕ
-down from at = (from + 128 - at) % 128
+-- how far a place lies above another, or below it, round the 128 places
+abbrev pub away : Bool → ℕ → ℕ → ℕ
+away true from at = (at + 128 - from) % 128
+away false from at = (from + 128 - at) % 128
 
 -- the least of these distances at an active address below n, or 255 where there is none
 pub data Nearest (away : ℕ → ℕ) (n : ℕ) (flags : List Bool) (r : ℕ) : Type 0 where
   nobody : ((i : ℕ) → i < n → active flags i ≡ false) → r ≡ 255 → Nearest away n flags r
-  nearest : (j : ℕ) → j < n → active flags j ≡ true → r ≡ away j → ((i : ℕ) → i < n → active flags i ≡ true → away j ≤ away i) → Nearest away n flags r
+  nearest : (j : ℕ) → j < n → active flags j ≡ true → r ≡ away j
+      → ((i : ℕ) → i < n → active flags i ≡ true → away j ≤ away i)
+      → Nearest away n flags r
 
 -- the places next to an own address, round the 128; an own address past them counts as the last
 abbrev pub placeAbove : ℕ → ℕ

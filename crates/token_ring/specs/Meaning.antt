@@ -1,16 +1,15 @@
--- What the rules mean for a set of addresses: the active ones. The theorems that tie the two are in proofs/Sets.antt, Neighbours.antt,
--- ByIndex.antt and Sound.antt.
--- Assumes nothing.
+-- What the rules mean for a set of addresses: the active ones. Read `between` and `inGap`, by which `station_lists` says demand 2, and `Sound`,
+-- which every list keeps that the calls make. The theorems that tie the two are in proofs/Sets.antt, Neighbours.antt, ByIndex.antt and Sound.antt.
 use mathlib.Core.Bool.{Bool, true, false, _&&_, _||_}
 use mathlib.Core.List.{List}
 use mathlib.Core.Path.{_≡_}
 use Prim.Native.Nat.{ℕ, _≤_, _<_}
 use lib.ListN.{length}
 use lib.Dec.{ltb}
-use Rattle.codes.specs.Pick.{if}
+use Rattle.ground.specs.Pick.{if}
 use Rattle.token_ring.specs.declared.ring.TokenRing.{TokenRing}
 use Rattle.token_ring.specs.Flags.{active, within}
-use Rattle.token_ring.specs.Rules.{claimed, made, nextOf, nextSet, previousOf, removed, witnessed, wrap}
+use Rattle.token_ring.specs.Rules.{nextOf, previousOf, wrap}
 
 -- an address is in the set
 abbrev pub Active : List Bool → ℕ → Type 0
@@ -39,14 +38,6 @@ NoneBetween first second flags = (a : ℕ) → between first second a ≡ true �
 -- what a pass sa to da clears: from sa up to below da, or on a wrap from sa upward and all below da
 abbrev pub inGap : ℕ → ℕ → ℕ → Bool
 inGap sa da a = if (wrap sa da) (within sa 128 a || within 0 da a) (within sa da a)
-
--- the lists that the calls make, and no other
-pub data Reached : TokenRing → Type 0 where
-  by-new : (own : ℕ) → Reached (made own)
-  by-witness : (sa da : ℕ) {r : TokenRing} → Reached r → Reached (witnessed sa da r)
-  by-claim : {r : TokenRing} → Reached r → Reached (claimed r)
-  by-set-next : (a : ℕ) {r : TokenRing} → Reached r → Reached (nextSet a r)
-  by-remove : (a : ℕ) {r : TokenRing} → Reached r → Reached (removed a r)
 
 -- what holds of every list that the calls make: 128 flags, those above 125 never set, own at most 125, and next and previous by the rule
 pub record Sound (r : TokenRing) : Type 0 where

@@ -1,10 +1,9 @@
--- Document 01, "Acceptance samples": the words in which those of the station list are said, a row of passes and what is told of the list
--- after it. The samples themselves stand in `acceptance`.
--- Assumes nothing.
+-- Document 01, "Acceptance samples": the words in which those of the station list are said, a row of passes (`after`) and what is told of the list
+-- after it (`shownList`). The samples themselves stand in `acceptance`.
 use mathlib.Core.Bool.{Bool}
 use mathlib.Core.List.{List, [], _∷_}
 use Prim.Native.Nat.{ℕ, suc}
-use Rattle.codes.specs.Pick.{if}
+use Rattle.ground.specs.Pick.{if}
 use Rattle.token_ring.specs.declared.las_state.LasState.{LasState}
 use Rattle.token_ring.specs.declared.ring.TokenRing.{TokenRing}
 use Rattle.token_ring.specs.Rules.{witnessed}
@@ -29,14 +28,14 @@ addresses k [] = []
 addresses k (x ∷ xs) = if x (k ∷ addresses (suc k) xs) (addresses (suc k) xs)
 
 -- what the samples tell of a list: its active addresses, next, previous and phase
-pub record Told : Type 0 where
+pub record ShownList : Type 0 where
   pub stations : List ℕ
   pub next : ℕ
   pub previous : ℕ
   pub phase : LasState
 
-abbrev pub told : TokenRing → Told
-told r =
+abbrev pub shownList : TokenRing → ShownList
+shownList r =
     record {
       stations = addresses 0 (r .«active_stations»);
       next = r .«next_station» .0;

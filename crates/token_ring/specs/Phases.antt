@@ -1,5 +1,4 @@
 -- Document 01, "The station list": the four phases.
--- Assumes nothing.
 use mathlib.Core.Bool.{Bool, true, false}
 use Rattle.token_ring.specs.declared.las_state.LasState.{LasState}
 use Rattle.token_ring.specs.declared.las_state.LasState.the-variants.{Uninitialized, Discovery, Verification, Valid}

@@ -1,8 +1,7 @@
--- The promise of a call that may refuse, each part by its name.
--- Assumes nothing.
+-- The promise of a call that may refuse, each part by its name: `Gives`. `TokenRing::new`, `set_next_station` and `remove_station` promise it.
 use mathlib.Core.Path.{_≡_}
 use Prim.Native.Nat.{ℕ}
-use Rattle.codes.specs.Refusals.{shown}
+use Rattle.ground.specs.Refusals.{shown}
 use Rattle.token_ring.specs.declared.ring.Changed.{Changed}
 use Rattle.token_ring.specs.declared.ring.TokenRing.{TokenRing}
 

@@ -1,12 +1,12 @@
--- Document 01, "The station list": the rules, over the flags and over the whole list.
--- Assumes nothing.
+-- Document 01, "The station list": the rules, over the flags and over the whole list. Read `made`, `witnessed` with `effectOf`, `claimed`, `nextSet`
+-- and `removed`, each the promise of a call.
 use mathlib.Core.Bool.{Bool, true, false, _&&_, _||_}
 use mathlib.Core.List.{List}
 use mathlib.Core.Option.{Option, none, some}
 use Prim.Native.Nat.{ℕ, suc}
 use lib.ListN.{set, replicate}
 use lib.Dec.{leb, ltb}
-use Rattle.codes.specs.Pick.{if}
+use Rattle.ground.specs.Pick.{if}
 use Rattle.token_ring.specs.Flags.{active, cleared, quiet, lowestFrom, highestBelow}
 use Rattle.token_ring.specs.declared.las_state.LasState.{LasState}
 use Rattle.token_ring.specs.declared.las_state.LasState.the-variants.{Uninitialized, Discovery, Verification, Valid}
@@ -86,6 +86,7 @@ pub record Effect : Type 0 where
   pub update : Bool
   pub phase : LasState
 
+-- by the phase in which the list is
 unfoldable pub effectOf : LasState → ℕ → ℕ → List Bool → Effect
 -- Uninitialized: a wrap moves to Discovery; the flags stay
 effectOf Uninitialized sa da flags = record { update = false; phase = if (wrap sa da) Discovery Uninitialized }

@@ -1,13 +1,14 @@
-// The work on the 128 flags. They are lent, so that no call copies them.
-use crate::ring::Found;
-use codes::Address;
+// The work on the 128 flags. They are lent, so that no call copies them. Promises: specs/Flags.antt and specs/Rules.antt, and between private
+// functions specs/Leaves.antt.
+use crate::found::Found;
+use ground::Address;
 use std::num::wrapping_sub_u8;
 ghost use mathlib.Core.Path.{_≡_};
 ghost use Prim.Native.Nat.{_≤_, _<_, min};
 ghost use lib.ListN.{length, set};
-ghost use Rattle.codes.specs.Pick.{if};
+ghost use Rattle.ground.specs.Pick.{if};
 ghost use Rattle.token_ring.specs.Flags.{cleared, quiet, lowestFrom, highestBelow, shownFound};
-ghost use Rattle.token_ring.specs.Leaves.{AtMost, Nearest, down, placeAbove, placeBelow, up};
+ghost use Rattle.token_ring.specs.Leaves.{AtMost, Nearest, away, placeAbove, placeBelow};
 ghost use Rattle.token_ring.specs.Rules.{nextOf, previousOf, swept, passed, holds};
 
 // Clears by a range, which compiles to one memset.
@@ -82,20 +83,16 @@ pub(crate) fn highest_below(flags: &[bool; 128], to: usize) -> Found
     Found::Nothing
 }
 
-// How far a place lies above another, round the end of the flags.
-fn up_from(from: u8, at: usize) -> u8
+// How far a place lies above another, or below it, round the 128 flags.
+fn away_from(from: u8, at: usize, above: bool) -> u8
     requires { ⌜ (from < 128) × (at < 128) ⌝ }
-    ensures { λ r. ⌜ r ≡ up from at ⌝ }
+    ensures { λ r. ⌜ r ≡ away above from at ⌝ }
 {
-    wrapping_sub_u8(at as u8, from) % 128
-}
-
-// How far a place lies below another, round the start of the flags.
-fn down_from(from: u8, at: usize) -> u8
-    requires { ⌜ (from < 128) × (at < 128) ⌝ }
-    ensures { λ r. ⌜ r ≡ down from at ⌝ }
-{
-    wrapping_sub_u8(from, at as u8) % 128
+    if above {
+        wrapping_sub_u8(at as u8, from) % 128
+    } else {
+        wrapping_sub_u8(from, at as u8) % 128
+    }
 }
 
 // A distance that counts only where the flag is set: 255 is farther than any.
@@ -111,30 +108,17 @@ fn lesser(a: u8, b: u8) -> u8
     if a < b { a } else { b }
 }
 
-// How far above a place the nearest active station is, round the end. It looks at every flag and no test ends it early, so that it compiles to
-// vector instructions: a search costs the same for few stations and for many.
-fn nearest_above(flags: &[bool; 128], from: u8) -> u8
+// How far the nearest active station is, above a place round the end or below it round the start. It looks at every flag and no test ends it
+// early, so that it compiles to vector instructions: a search costs the same for few stations and for many. The way comes as a literal, so that
+// each caller has a loop of its own without a test of it.
+fn nearest(flags: &[bool; 128], from: u8, above: bool) -> u8
     requires { ⌜ (from < 128) × (length (now flags) ≡ 128) ⌝ }
-    ensures { λ r. ⌜ Nearest (up from) 128 (now (flags .entry)) r ⌝ }
+    ensures { λ r. ⌜ Nearest (away above from) 128 (now (flags .entry)) r ⌝ }
 {
     let mut best: u8 = 255;
     let mut at = 0;
     while at < 128 {
-        best = lesser(counted(flags[at], up_from(from, at)), best);
-        at += 1;
-    }
-    best
-}
-
-// The same downward, round the start.
-fn nearest_below(flags: &[bool; 128], from: u8) -> u8
-    requires { ⌜ (from < 128) × (length (now flags) ≡ 128) ⌝ }
-    ensures { λ r. ⌜ Nearest (down from) 128 (now (flags .entry)) r ⌝ }
-{
-    let mut best: u8 = 255;
-    let mut at = 0;
-    while at < 128 {
-        best = lesser(counted(flags[at], down_from(from, at)), best);
+        best = lesser(counted(flags[at], away_from(from, at, above)), best);
         at += 1;
     }
     best
@@ -165,7 +149,7 @@ pub(crate) fn next_of(flags: &[bool; 128], own: u8) -> Address
     ensures { λ r. ⌜ r .0 ≡ nextOf own (now (flags .entry)) ⌝ }
 {
     let from = place_above(own);
-    let away = nearest_above(flags, from);
+    let away = nearest(flags, from, true);
     if away == 255 {
         return Address(own);
     }
@@ -177,11 +161,11 @@ pub(crate) fn previous_of(flags: &[bool; 128], own: u8) -> Address
     ensures { λ r. ⌜ r .0 ≡ previousOf own (now (flags .entry)) ⌝ }
 {
     let from = place_below(own);
-    let away = nearest_below(flags, from);
+    let away = nearest(flags, from, false);
     if away == 255 {
         return Address(own);
     }
-    Address(down_from(from, away as usize))
+    Address(away_from(from, away as usize, false))
 }
 
 // Clears the gap of a pass, as it holds no known active station.

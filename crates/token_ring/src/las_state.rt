@@ -1,4 +1,4 @@
-// The phases of a station list.
+// The phases of a station list. Promise: `isValid` in specs/Phases.antt.
 ghost use mathlib.Core.Path.{_≡_};
 ghost use Rattle.token_ring.specs.Phases.{isValid};
 

@@ -1,4 +1,5 @@
-// The station list: profirust's `TokenRing`. It goes in by value and comes back.
+// The station list: profirust's `TokenRing`. It goes in by value and comes back. Promises: `made`, `witnessed`, `claimed`, `nextSet` and `removed` in
+// specs/Rules.antt.
 use crate::flags::highest_below;
 use crate::flags::lowest_from;
 use crate::flags::mark;
@@ -6,25 +7,20 @@ use crate::flags::next_of;
 use crate::flags::pass;
 use crate::flags::previous_of;
 use crate::flags::verify;
+use crate::found::Found;
 use crate::las_state::LasState;
-use codes::Address;
-use codes::Answer;
-use codes::Refusal;
+use ground::Address;
+use ground::Answer;
+use ground::Refusal;
 ghost use mathlib.Core.Path.{_≡_};
 ghost use Prim.Native.Nat.{suc, _≤_, _<_};
 ghost use lib.ListN.{length};
-ghost use Rattle.codes.specs.Pick.{if};
+ghost use Rattle.ground.specs.Pick.{if};
 ghost use Rattle.token_ring.specs.Flags.{active, lowestFrom, highestBelow, shownFound};
 ghost use Rattle.token_ring.specs.Phases.{isValid};
 ghost use Rattle.token_ring.specs.Leaves.{Hears};
 ghost use Rattle.token_ring.specs.Promises.{Gives};
 ghost use Rattle.token_ring.specs.Rules.{claimed, effectOf, fresh, inPhase, made, nextSet, removed, stationAnswer, updated, withFlags, witnessed, wrap};
-
-// What a search for an active station finds.
-pub enum Found {
-    Station(Address),
-    Nothing,
-}
 
 // Management of the token ring from the station's point of view.
 pub struct TokenRing {

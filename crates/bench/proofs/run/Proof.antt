@@ -1,14 +1,14 @@
--- `run` is safe and ends: each line ends behind its start, and within the input. Assumes nothing.
+-- `run` is safe and ends: each line ends behind its start, and within the input.
 use Prim.Native.Nat.{_-_}
 use borrow.Author.Needs.{needs}
 use Rattle.bench.proofs.run.Statement.{statement}
 use Rattle.bench.proofs.run.Tie as tie
 
 abbrev Inv-loop : tie.InvT-loop
-Inv-loop input len out₀ bench₀ at₀ out bench at = Unit {0}
+Inv-loop input len out₀ ends₀ at₀ out ends at = Unit {0}
 
 abbrev μ-loop : tie.MeasureT-loop
-μ-loop input len out₀ bench₀ at₀ out bench at = len - at
+μ-loop input len out₀ ends₀ at₀ out ends at = len - at
 
 pub run-spec : {M : Type 1} → statement M
 run-spec =

@@ -1,11 +1,10 @@
 -- `main` is safe and ends: the bytes that were read lie within the array that they were read into.
--- Assumes nothing.
 use mathlib.Core.Path.{_≡_}
 use Prim.Native.Nat.{ℕ, _≤_}
 use native.Mathlib.Omega.{arith}
 use borrow.Author.Needs.{needs}
 use lib.ListN.{length-take}
-use Rattle.lister.specs.Reads.{inputWithin}
+use Rattle.lister.specs.Leaves.{inputWithin}
 use Rattle.lister.specs.declared.Input.{Input}
 use Rattle.lister.specs.declared.Input.the-variants.{Bytes}
 use Rattle.lister.proofs.main.Statement.{statement}

@@ -1,6 +1,5 @@
 -- `print` meets its contract: the room is the one that is always enough. The search would find it unasked; the file makes a shorter room fail
 -- here, at the fact.
--- Assumes nothing.
 use borrow.Author.Needs.{needs}
 use Rattle.lister.proofs.print.Statement.{statement}
 use Rattle.lister.proofs.print.Tie as tie

@@ -1,5 +1,4 @@
 -- `put_output` meets its contract: with its room the text is made, and what was made is shown.
--- Assumes nothing.
 use borrow.Author.Needs.{needs}
 use Rattle.listing.proofs.AnswerLaws.{output-shown}
 use Rattle.lister.proofs.put_output.Statement.{statement}

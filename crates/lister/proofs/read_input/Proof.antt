@@ -1,11 +1,10 @@
 -- `read_input` is safe and ends: each turn that goes on has read a byte, and what was read lies within the buffer.
--- Assumes nothing.
 use mathlib.Core.Path.{_≡_}
 use Prim.Native.Nat.{ℕ, _+_, _-_, _≤_}
 use native.Mathlib.Omega.{arith}
 use borrow.Author.Needs.{needs}
 use lib.ListN.{length}
-use Rattle.lister.specs.Reads.{moreWithin}
+use Rattle.lister.specs.Leaves.{moreWithin}
 use Rattle.lister.specs.declared.More.{More}
 use Rattle.lister.specs.declared.More.the-variants.{Bytes}
 use Rattle.lister.proofs.read_input.Statement.{statement}

@@ -1,5 +1,4 @@
 -- `discovered` meets its contract: each call gives what its promise says of the list before it.
--- Assumes nothing.
 use mathlib.Core.Path.{ap, _∙_}
 use borrow.Author.Needs.{needs}
 use Rattle.token_ring.specs.Rules.{witnessed}

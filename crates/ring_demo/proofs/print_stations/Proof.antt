@@ -1,5 +1,4 @@
 -- `print_stations` ends: a station that is found from an address upward is not below it, so that the next search starts higher.
--- Assumes nothing.
 use mathlib.Core.Path.{sym, ap, _∙_}
 use Prim.Native.Nat.{_≤_, _-_}
 use native.Mathlib.Omega.{arith}

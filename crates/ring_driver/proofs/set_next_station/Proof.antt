@@ -1,5 +1,4 @@
 -- `set_next_station` meets its contract: the theorem of its shape, at its method.
--- Assumes nothing.
 use contract.Running.{givenOf, tables, tablesOf}
 use denote.Triple.Spec.{tripleOf}
 use denote.Triple.Table.{entered, cited}

@@ -1,4 +1,4 @@
--- `put_joined` is safe and ends: a turn for each byte but the last. Assumes nothing.
+-- `put_joined` is safe and ends: a turn for each byte but the last.
 use Prim.Native.Nat.{_-_, _≤_}
 use borrow.Author.Needs.{needs}
 use lib.ListN.{length}

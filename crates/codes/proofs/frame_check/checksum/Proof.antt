@@ -1,5 +1,4 @@
 -- `checksum` meets its contract. The loop's invariant: the sum so far and the bytes that are left add up to the whole.
--- Assumes nothing.
 use Prim.Native.Nat.{_≤_, _<_, _-_}
 use mathlib.Core.Path.{_∙_}
 use native.Mathlib.Nat.{mod-lt}

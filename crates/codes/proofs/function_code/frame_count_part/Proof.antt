@@ -1,5 +1,4 @@
 -- `frame_count_part` meets its contract: each arm names the variant that it is for.
--- Assumes nothing.
 use Rattle.codes.proofs.function_code.frame_count_part.Statement.{statement}
 use Rattle.codes.proofs.function_code.frame_count_part.Tie as tie
 

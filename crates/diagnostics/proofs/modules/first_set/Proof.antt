@@ -1,5 +1,4 @@
 -- `first_set` meets its contract. The invariant: what is left to look at gives the whole search's answer. The measure is what is left.
--- Assumes nothing.
 use borrow.Author.Needs.{needs}
 use mathlib.Core.Path.{_≡_, sym, _∙_}
 use Prim.Native.Nat.{_-_}
@@ -24,8 +23,8 @@ loop-holds c = rw (c .modules .ensures)
 is-set-requires : tie.Need-is-set-requires Inv-loop μ-loop
 is-set-requires c κs = search needs
 
-returns : tie.Need-returns Inv-loop μ-loop
-returns c =
+found : tie.Need-returns Inv-loop μ-loop
+found c =
     let l = c .before .before in
     sym (first-here _ _ _ (l .loop-test .taken) (sym (c .before .is-set .ensures) ∙ c .if1 .taken)) ∙ l .before .loop .inv
 
@@ -40,8 +39,8 @@ loop-again c =
     let l = c .before .before in
     sym (first-later _ _ _ (l .loop-test .taken) (sym (c .before .is-set .ensures) ∙ c .if1 .left)) ∙ l .before .loop .inv
 
-returns-2 : tie.Need-returns-2 Inv-loop μ-loop
-returns-2 c = sym (first-none _ _ _ (c .loop-test .left)) ∙ c .before .loop .inv
+nothing : tie.Need-returns-2 Inv-loop μ-loop
+nothing c = sym (first-none _ _ _ (c .loop-test .left)) ∙ c .before .loop .inv
 
 pub first-set-spec : {M : Type 1} → statement M
 first-set-spec =
@@ -52,8 +51,8 @@ first-set-spec =
     modules-requires
     loop-holds
     is-set-requires
-    returns
+    found
     add-at
     loop-less
     loop-again
-    returns-2)
+    nothing)

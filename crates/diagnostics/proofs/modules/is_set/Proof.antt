@@ -1,5 +1,4 @@
 -- `is_set` meets its contract: past the body's end there is no bit, and within it the shift is the definition's quotient.
--- Assumes nothing.
 use borrow.Author.Needs.{needs}
 use mathlib.Core.Path.{sym}
 use Rattle.diagnostics.specs.Modules.{bitOf}
@@ -7,13 +6,13 @@ use Rattle.diagnostics.proofs.Bits.{bit-past}
 use Rattle.diagnostics.proofs.modules.is_set.Statement.{statement}
 use Rattle.diagnostics.proofs.modules.is_set.Tie as tie
 
-returns : tie.Need-returns
-returns c = sym (bit-past _ _ (c .if1 .taken))
+past-the-end : tie.Need-returns
+past-the-end c = sym (bit-past _ _ (c .if1 .taken))
 
-returns-2 : tie.Need-returns-2
+within : tie.Need-returns-2
 unfolding bitOf
-returns-2 c = rw (c .place-of .ensures)
+within c = rw (c .place-of .ensures)
 
 pub is-set-spec : {M : Type 1} → statement M
 is-set-spec =
-    tie.close (tie.spec returns (λ c. search needs) (λ c κs. search needs) (λ c. search needs) returns-2)
+    tie.close (tie.spec past-the-end (λ c. search needs) (λ c κs. search needs) (λ c. search needs) within)

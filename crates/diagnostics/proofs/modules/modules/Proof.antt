@@ -1,5 +1,4 @@
 -- `modules` meets its contract: the test is the definition's, from the other side.
--- Assumes nothing.
 use borrow.Author.Needs.{needs}
 use borrow.Author.Tests.{le-leb, lt-leb}
 use Rattle.diagnostics.specs.Modules.{modulesOf}
@@ -9,13 +8,13 @@ use Rattle.diagnostics.proofs.modules.modules.Tie as tie
 mul-result : tie.Need-mul-result
 mul-result c = search needs
 
-returns : tie.Need-returns
+short : tie.Need-returns
 unfolding modulesOf
-returns c = rw (lt-leb _ _ (c .if1 .taken))
+short c = rw (lt-leb _ _ (c .if1 .taken))
 
-returns-2 : tie.Need-returns-2
+full : tie.Need-returns-2
 unfolding modulesOf
-returns-2 c = rw (le-leb _ _ (c .if1 .left))
+full c = rw (le-leb _ _ (c .if1 .left))
 
 pub modules-spec : {M : Type 1} → statement M
-modules-spec = tie.close (tie.spec mul-result returns returns-2)
+modules-spec = tie.close (tie.spec mul-result short full)

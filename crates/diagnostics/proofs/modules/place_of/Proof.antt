@@ -1,5 +1,4 @@
 -- `place_of` meets its contract: a remainder by 8 fits a byte. The search would find it unasked; the file makes a wrong `place_of` fail here, at the fact.
--- Assumes nothing.
 use borrow.Author.Needs.{needs}
 use Rattle.diagnostics.proofs.modules.place_of.Statement.{statement}
 use Rattle.diagnostics.proofs.modules.place_of.Tie as tie

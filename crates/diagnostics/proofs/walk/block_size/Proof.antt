@@ -1,5 +1,4 @@
 -- `block_size` meets its contract: the low six bits of a byte fit a `usize`. The search would find it unasked; the file makes a wrong `block_size` fail here, at the fact.
--- Assumes nothing.
 use borrow.Author.Needs.{needs}
 use Rattle.diagnostics.proofs.walk.block_size.Statement.{statement}
 use Rattle.diagnostics.proofs.walk.block_size.Tie as tie

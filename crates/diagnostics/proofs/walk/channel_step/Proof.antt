@@ -1,5 +1,4 @@
 -- `channel_step` meets its contract: three bytes are there or not, and they say what `from_diag_bytes` ensures.
--- Assumes nothing.
 use native.Mathlib.Omega.{arith}
 use borrow.Author.Needs.{needs}
 use mathlib.Core.Path.{sym, _∙_}
@@ -10,17 +9,17 @@ use Rattle.diagnostics.proofs.Headers.{channel-cut, channel-whole}
 use Rattle.diagnostics.proofs.walk.channel_step.Statement.{statement}
 use Rattle.diagnostics.proofs.walk.channel_step.Tie as tie
 
-returns : tie.Need-returns
-returns c =
+cut-off : tie.Need-returns
+cut-off c =
     let start = c .before .before .before in
     c .refused .ensures ∙ sym (channel-cut _ _ _ (start .pre .1) (omega (arith, c .before .if1 .taken)))
 
-returns-2 : tie.Need-returns-2
-returns-2 c =
+whole : tie.Need-returns-2
+whole c =
     let e = c .before .before .before in
     let a = e .before .before .args in
-    let whole : a .cursor + 3 ≤ length (now (a .raw)) = omega (arith, e .if1 .left) in
-    rw (channel-whole _ _ _ (e .before .before .pre .1) whole, c .from-diag-bytes .ensures)
+    let room : a .cursor + 3 ≤ length (now (a .raw)) = omega (arith, e .if1 .left) in
+    rw (channel-whole _ _ _ (e .before .before .pre .1) room, c .from-diag-bytes .ensures)
 
 pub channel-step-spec : {M : Type 1} → statement M
 channel-step-spec =
@@ -28,10 +27,10 @@ channel-step-spec =
     (tie.spec
     (λ c. search needs)
     (λ c κs. search needs)
-    returns
+    cut-off
     (λ c. search needs)
     (λ c. search needs)
     (λ c. search needs)
     (λ c. search needs)
     (λ c κs. search needs)
-    returns-2)
+    whole)

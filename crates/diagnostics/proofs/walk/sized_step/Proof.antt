@@ -1,5 +1,4 @@
 -- `sized_step` meets its contract: its tests are the definition's, at a length in the low six bits.
--- Assumes nothing.
 use borrow.Author.Needs.{needs}
 use mathlib.Core.Path.{sym, _∙_}
 use Prim.Native.Nat.{_+_, _%_, _<_, _≤_}
@@ -10,14 +9,14 @@ use Rattle.diagnostics.proofs.Headers.{sized-cut, sized-whole, sized-ze
 use Rattle.diagnostics.proofs.walk.sized_step.Statement.{statement}
 use Rattle.diagnostics.proofs.walk.sized_step.Tie as tie
 
-returns : tie.Need-returns
-returns c =
+length-zero : tie.Need-returns
+length-zero c =
     let b = c .before .before in
     let start = b .before .before in
     c .refused .ensures ∙ sym (sized-zero _ _ _ (rw (start .pre .1) (start .pre .2)) (sym (b .block-size .ensures) ∙ c .before .if1 .taken))
 
-returns-2 : tie.Need-returns-2
-returns-2 c =
+cut-off : tie.Need-returns-2
+cut-off c =
     let e = c .before .before in
     let size = e .before .block-size .ensures in
     let start = e .before .before .before in
@@ -25,8 +24,8 @@ returns-2 c =
     let cut : length (now (a .raw)) < a .cursor + a .header % 64 = omega (arith, size, c .before .if2 .taken) in
     c .refused2 .ensures ∙ sym (sized-cut _ _ _ (rw (start .pre .1) (start .pre .2)) (λ z. e .if1 .left (size ∙ z)) cut)
 
-returns-3 : tie.Need-returns-3
-returns-3 c =
+whole : tie.Need-returns-3
+whole c =
     let e = c .before .before in
     let size = e .before .block-size .ensures in
     let start = e .before .before .before in
@@ -44,9 +43,9 @@ sized-step-spec =
     (tie.spec
     (λ c κs. search needs)
     (λ c κs. search needs)
-    returns
+    length-zero
     (λ c. search needs)
     (λ c κs. search needs)
-    returns-2
+    cut-off
     (λ c κs. search needs)
-    returns-3)
+    whole)

@@ -1,5 +1,4 @@
 -- `hear_opening_reply` meets its contract: each arm is a clause of `awaitingOk`.
--- Assumes nothing.
 use borrow.Author.Needs.{needs}
 use Rattle.initiator.proofs.calls.hear_opening_reply.Statement.{statement}
 use Rattle.initiator.proofs.calls.hear_opening_reply.Tie as tie
@@ -7,7 +6,7 @@ use Rattle.initiator.proofs.calls.hear_opening_reply.Tie as tie
 ok : tie.Need-returns
 ok c =
     let s = c .before .before in
-    rw (s .before .before .enum-told .given .1) (s .sends .ensures)
+    rw (s .before .before .enum-told .given .1) (s .send-order .ensures)
 
 reply : tie.Need-returns-2
 reply c = rw (c .before .enum-told2 .given .1) (c .nothing .ensures _)

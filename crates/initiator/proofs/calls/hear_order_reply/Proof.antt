@@ -1,5 +1,4 @@
 -- `hear_order_reply` meets its contract: each arm is a clause of `awaitingReply`.
--- Assumes nothing.
 use borrow.Author.Needs.{needs}
 use Rattle.initiator.proofs.calls.hear_order_reply.Statement.{statement}
 use Rattle.initiator.proofs.calls.hear_order_reply.Tie as tie

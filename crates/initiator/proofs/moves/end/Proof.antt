@@ -1,5 +1,4 @@
 -- `end` meets its contract: the record in its last phase, with no order.
--- Assumes nothing.
 use borrow.Author.Needs.{needs}
 use Rattle.initiator.proofs.moves.end.Statement.{statement}
 use Rattle.initiator.proofs.moves.end.Tie as tie

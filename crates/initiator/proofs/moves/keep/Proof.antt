@@ -1,5 +1,4 @@
 -- `keep` meets its contract: the array holds what `copy_to_front` leaves there.
--- Assumes nothing.
 use borrow.Author.Needs.{needs}
 use Rattle.initiator.proofs.moves.keep.Statement.{statement}
 use Rattle.initiator.proofs.moves.keep.Tie as tie

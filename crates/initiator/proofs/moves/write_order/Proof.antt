@@ -1,5 +1,4 @@
 -- `write_order` meets its contract: the pending order is the front of its array, which has 246 bytes.
--- Assumes nothing.
 use mathlib.Core.Path.{_≡_, sym}
 use native.Mathlib.Omega.{arith}
 use lib.ListN.{length}
@@ -9,12 +8,12 @@ use Rattle.initiator.proofs.OrderLaws.{len-small}
 use Rattle.initiator.proofs.moves.write_order.Statement.{statement}
 use Rattle.initiator.proofs.moves.write_order.Tie as tie
 
-full : (c : tie.After-order-len) → length (c .before .before .before .before .before .args .initiator .order) ≡ 246
+full : (c : tie.After-order-len) → length (c .before .before .before .before .args .initiator .order) ≡ 246
 full c = search needs
 
 order-there : tie.Need-array-share-prefix-order
 order-there c =
-    let s = c .before .before .before .before .before .before in
+    let s = c .before .before .before .before .before in
     omega (arith, full (c .before), c .before .order-len .ensures, len-small (s .args .initiator))
 
 order-counted : tie.Need-slice-aggregate-send-data-telegram

@@ -1,5 +1,4 @@
 -- `wrong_order` meets its contract: it asks for the order's length.
--- Assumes nothing.
 use borrow.Author.Needs.{needs}
 use Rattle.initiator.proofs.moves.wrong_order.Statement.{statement}
 use Rattle.initiator.proofs.moves.wrong_order.Tie as tie

@@ -1,5 +1,4 @@
 -- `not_made` meets its contract: the closed record of no station.
--- Assumes nothing.
 use borrow.Author.Needs.{needs}
 use Rattle.initiator.proofs.state.not_made.Statement.{statement}
 use Rattle.initiator.proofs.state.not_made.Tie as tie

@@ -1,5 +1,4 @@
--- `reply_heard` meets its contract: what the peer's telegram is, is looked at as `replyOf` does.
--- Assumes nothing.
+-- `reply_heard` meets its contract: the telegram to the station is looked at as `replyFrom` does.
 use mathlib.Core.Path.{sym, _∙_}
 use borrow.Author.Needs.{needs}
 use Rattle.link_telegrams.specs.Heard.{replyHeardOf}
@@ -9,32 +8,48 @@ use Rattle.link_telegrams.proofs.heard.reply_heard.Tie as tie
 
 not-ours : tie.Need-returns
 unfolding replyHeardOf
-not-ours c = rw (← c .before .before .from-peer .ensures, c .enum-told .given .1)
+not-ours c = rw (← c .before .before .data-to .ensures, c .enum-told .given .1)
 
-another-kind : tie.Need-returns-2
+from-another : tie.Need-returns-2
+unfolding replyHeardOf
+from-another c =
+    let p = c .before .before .before .before in
+    let d = p .sa .given .0 in
+    rw (← p .before .before .data-to .ensures, p .sa .given .1)
+    (sym (cases.not-the-peer _ (d .0) (d .1 .0) (d .1 .1 .0) (c .if1 .taken)))
+
+another-kind : tie.Need-returns-3
 unfolding replyHeardOf
 another-kind c =
-    let p = c .before .before .before in
-    rw (← p .before .before .from-peer .ensures, p .fc .given .1, c .enum-told2 .given .1)
+    let p = c .before .before .before .before .before .before in
+    rw (← p .before .before .data-to .ensures, p .sa .given .1, c .enum-told2 .given .1)
 
-of-a-slave : tie.Need-returns-3
+of-a-slave : tie.Need-returns-4
 unfolding replyHeardOf
 of-a-slave c =
     let n = c .before .before in
     let q = n .before .before .before in
-    let p = q .before .before .before in
-    rw (← p .before .before .from-peer .ensures, p .fc .given .1, q .fc2 .given .1)
+    let e = q .before .before in
+    let p = e .before .before .before .before in
+    let d = p .sa .given .0 in
+    rw (← p .before .before .data-to .ensures, p .sa .given .1, q .fc .given .1)
     (c .slave .ensures
-    ∙ sym (cases.of-a-slave (q .fc2 .given .0 .0) (q .fc2 .given .0 .1 .0) (p .fc .given .0 .1 .0) (sym (n .before .number .ensures) ∙ c .before .if1 .taken ∙ n .number2 .ensures)))
+    ∙ sym
+    (cases.of-a-slave _ (d .0) (q .fc .given .0 .0) (q .fc .given .0 .1 .0) (d .1 .1 .0) (e .if1 .left)
+    (sym (n .before .number .ensures) ∙ c .before .if2 .taken ∙ n .number2 .ensures)))
 
-another : tie.Need-returns-4
+another-state : tie.Need-returns-5
 unfolding replyHeardOf
-another c =
+another-state c =
     let n = c .before in
     let q = n .before .before .before in
-    let p = q .before .before .before in
-    rw (← p .before .before .from-peer .ensures, p .fc .given .1, q .fc2 .given .1)
-    (sym (cases.another-state (q .fc2 .given .0 .0) (q .fc2 .given .0 .1 .0) (p .fc .given .0 .1 .0) (λ e. c .if1 .left (n .before .number .ensures ∙ e ∙ sym (n .number2 .ensures)))))
+    let e = q .before .before in
+    let p = e .before .before .before .before in
+    let d = p .sa .given .0 in
+    rw (← p .before .before .data-to .ensures, p .sa .given .1, q .fc .given .1)
+    (sym
+    (cases.another-state _ (d .0) (q .fc .given .0 .0) (q .fc .given .0 .1 .0) (d .1 .1 .0) (e .if1 .left)
+    (λ s. c .if2 .left (n .before .number .ensures ∙ s ∙ sym (n .number2 .ensures)))))
 
 pub reply-heard-spec : {M : Type 1} → statement M
 reply-heard-spec =
@@ -44,6 +59,7 @@ reply-heard-spec =
     (λ c. search needs)
     (λ c. search needs)
     not-ours
+    from-another
     (λ c. search needs)
     (λ c. search needs)
     another-kind
@@ -51,4 +67,4 @@ reply-heard-spec =
     (λ c κs. search needs)
     (λ c κs. search needs)
     of-a-slave
-    another)
+    another-state)

@@ -1,5 +1,4 @@
 -- `slave` meets its contract: statuses are compared through their numbers, in the order of `slaveOf`.
--- Assumes nothing.
 use mathlib.Core.Path.{sym, _∙_}
 use borrow.Author.Needs.{needs}
 use Rattle.link_telegrams.proofs.HeardCases as cases

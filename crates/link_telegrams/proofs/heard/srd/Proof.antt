@@ -1,5 +1,4 @@
 -- `srd` meets its contract: each arm names the variant that it is for, and First looks at the PDU's length.
--- Assumes nothing.
 use mathlib.Core.Path.{sym}
 use Rattle.link_telegrams.proofs.HeardCases.{first-empty, first-with-bytes}
 use Rattle.link_telegrams.proofs.heard.srd.Statement.{statement}

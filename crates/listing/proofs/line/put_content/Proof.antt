@@ -1,5 +1,4 @@
 -- `put_content` meets its contract: its two fields and the line feed are placed one behind the other.
--- Assumes nothing.
 use Rattle.text.proofs.PlacedLaws.{then}
 use Rattle.listing.specs.Lines.{contentOf}
 use borrow.Author.Needs.{needs}

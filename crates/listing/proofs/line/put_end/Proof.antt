@@ -1,5 +1,4 @@
 -- `put_end` meets its contract: the end, its place and the line feed are placed one behind the other.
--- Assumes nothing.
 use Rattle.text.proofs.PlacedLaws.{then}
 use Rattle.listing.specs.Lines.{endOf}
 use borrow.Author.Needs.{needs}

@@ -1,18 +1,17 @@
 -- `put_figure` meets its contract: the name is placed, then the figure as its arm says.
--- Assumes nothing.
 use Rattle.listing.proofs.LineLaws.{figure-number, figure-absent}
 use borrow.Author.Needs.{needs}
 use Rattle.listing.proofs.line.put_figure.Statement.{statement}
 use Rattle.listing.proofs.line.put_figure.Tie as tie
 
-returns : tie.Need-returns
-returns c =
+of-number : tie.Need-returns
+of-number c =
     let number = c .before .before in
     let arm = number .before .before .before in
     figure-number (arm .before .before .before .before .put-bytes .ensures) (arm .figure .given .1) (number .put-decimal .ensures)
 
-returns-2 : tie.Need-returns-2
-returns-2 c =
+of-absent : tie.Need-returns-2
+of-absent c =
     let dash = c .before .before in
     let arm = dash .before .before in
     figure-absent (arm .before .before .before .before .put-bytes .ensures) (arm .enum-told .given .1) (dash .put-byte .ensures)
@@ -27,6 +26,6 @@ put-figure-spec =
     (λ c. search needs)
     (λ c κs. search needs)
     (λ c. search needs)
-    returns
+    of-number
     (λ c. search needs)
-    returns-2)
+    of-absent)

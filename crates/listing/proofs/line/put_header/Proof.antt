@@ -1,5 +1,4 @@
 -- `put_header` meets its contract: its four fields are placed one behind the other.
--- Assumes nothing.
 use Rattle.text.proofs.PlacedLaws.{then}
 use Rattle.listing.specs.Lines.{headerOf}
 use borrow.Author.Needs.{needs}

@@ -1,5 +1,4 @@
 -- `put_kind` meets its contract: each arm places the bytes of its kind.
--- Assumes nothing.
 use mathlib.Core.Path.{ap}
 use Rattle.listing.specs.Lines.{kindField}
 use Rattle.listing.proofs.LineLaws.{placed-as}
@@ -7,18 +6,18 @@ use borrow.Author.Needs.{needs}
 use Rattle.listing.proofs.line.put_kind.Statement.{statement}
 use Rattle.listing.proofs.line.put_kind.Tie as tie
 
-returns : tie.Need-returns
-returns c =
+of-ack : tie.Need-returns
+of-ack c =
     let field = c .before .before in
     placed-as (ap kindField (field .before .before .before .enum-told .given .1)) (field .put-bytes .ensures)
 
-returns-2 : tie.Need-returns-2
-returns-2 c =
+of-token : tie.Need-returns-2
+of-token c =
     let field = c .before .before in
     placed-as (ap kindField (field .before .before .before .enum-told2 .given .1)) (field .put-bytes2 .ensures)
 
-returns-3 : tie.Need-returns-3
-returns-3 c =
+of-data : tie.Need-returns-3
+of-data c =
     let field = c .before .before in
     placed-as (ap kindField (field .before .before .before .enum-told3 .given .1)) (field .put-bytes3 .ensures)
 
@@ -36,8 +35,8 @@ put-kind-spec =
     (λ c. search needs)
     (λ c κs. search needs)
     (λ c. search needs)
-    returns
+    of-ack
     (λ c. search needs)
-    returns-2
+    of-token
     (λ c. search needs)
-    returns-3)
+    of-data)

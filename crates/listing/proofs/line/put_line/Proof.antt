@@ -1,5 +1,4 @@
 -- `put_line` meets its contract: its three parts are placed one behind the other.
--- Assumes nothing.
 use Rattle.text.proofs.PlacedLaws.{then}
 use Rattle.listing.specs.Lines.{lineOf}
 use borrow.Author.Needs.{needs}

@@ -1,5 +1,4 @@
 -- `put_number` meets its contract: the name is placed, then the digits behind it.
--- Assumes nothing.
 use Rattle.text.proofs.PlacedLaws.{then}
 use borrow.Author.Needs.{needs}
 use Rattle.listing.proofs.line.put_number.Statement.{statement}

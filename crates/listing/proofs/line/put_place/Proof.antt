@@ -1,5 +1,4 @@
 -- `put_place` meets its contract: its three fields are placed one behind the other.
--- Assumes nothing.
 use Rattle.text.proofs.PlacedLaws.{then}
 use Rattle.listing.specs.Lines.{placeOf}
 use borrow.Author.Needs.{needs}

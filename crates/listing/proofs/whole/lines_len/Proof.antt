@@ -1,14 +1,13 @@
 -- `lines_len` meets its contract: after each turn the lines up to the place are counted, and those from there on are left.
--- Assumes nothing.
 use mathlib.Core.Path.{sym, ap, _∙_}
-use Rattle.listing.specs.Lines.{saidText}
+use Rattle.listing.specs.Leaves.{itemText}
 use Prim.Native.Nat.{_+_, _-_, _≤_}
 use native.Mathlib.Omega.{arith}
 use denote.Ref.{now}
-use lib.ListN.{length, drop}
+use lib.ListN.{length}
 use Rattle.telegram.proofs.ByteLaws.{drop-bytes}
-use Rattle.listing.proofs.SaidLaws.{said-short, said-reason}
-use Rattle.listing.proofs.ListingLaws.{Counted, counts, ends-within, counts-on, counts-all, said-part, lines-small}
+use Rattle.listing.proofs.ItemLaws.{item-short, item-reason}
+use Rattle.listing.proofs.ListingLaws.{Counted, counts, ends-within, counts-on, counts-all, item-part, lines-small}
 use borrow.Author.Needs.{needs}
 use Rattle.listing.proofs.whole.lines_len.Statement.{statement}
 use Rattle.listing.proofs.whole.lines_len.Tie as tie
@@ -23,38 +22,41 @@ abbrev μ-loop : tie.MeasureT-loop
 ended : (c : tie.After-struct-known Inv-loop μ-loop)
     → let arm = c .before .before in
     let head = arm .before .before .before .before in
-    (1 ≤ arm .said .given .0 .0 .len) × (head .loop .at + arm .said .given .0 .0 .len ≤ length (now (head .before .before .args .input)))
+    (1 ≤ arm .item .given .0 .0 .len) × (head .loop .at + arm .item .given .0 .0 .len ≤ length (now (head .before .before .args .input)))
 ended c =
     let arm = c .before .before in
-    let told = arm .before .before .before in
-    ends-within _ _ (told .before .loop .inv .within) (sym (told .said-at .ensures) ∙ arm .said .given .1)
+    let listed = arm .before .before .before in
+    ends-within _ _ (listed .before .loop .inv .within) (sym (listed .item-at .ensures) ∙ arm .item .given .1)
 
 loop-holds : tie.Need-loop-holds Inv-loop μ-loop
 loop-holds c = counts
 
-said-at-requires : tie.Need-said-at-requires Inv-loop μ-loop
-said-at-requires c κs = c .loop .inv .within
+item-at-requires : tie.Need-item-at-requires Inv-loop μ-loop
+item-at-requires c κs = c .loop .inv .within
 
-said-len-requires : tie.Need-said-len-requires Inv-loop μ-loop
-said-len-requires c κs =
+item-len-requires : tie.Need-item-len-requires Inv-loop μ-loop
+item-len-requires c κs =
     let head = c .before in
     let known = head .before in
-    said-short _ _ (omega (arith, head .loop .inv .within, known .before .pre)) (drop-bytes (head .loop .at) (now (known .before .args .input)) (λ i. known .shared-slice-known .given i .fits)) (said-reason _ _ (sym (c .said-at .ensures)))
+    item-short _ _ (omega (arith, head .loop .inv .within, known .before .pre))
+    (drop-bytes (head .loop .at) (now (known .before .args .input)) (λ i. known .shared-slice-known .given i .fits))
+    (item-reason _ _ (sym (c .item-at .ensures)))
 
 add-len : tie.Need-add-len Inv-loop μ-loop
 add-len c =
-    let told = c .before in
-    let head = told .before in
+    let listed = c .before in
+    let head = listed .before in
     let known = head .before in
     let small = lines-small (now (known .before .args .input)) (λ i. known .shared-slice-known .given i .fits) (known .before .pre) in
-    let part = said-part (head .loop .at) (drop (head .loop .at) (now (known .before .args .input))) in
-    omega (arith, head .loop .inv .left, c .said-len .ensures ∙ ap (λ x. length (saidText x)) (told .said-at .ensures), known .before .pre)
+    let part = item-part (now (known .before .args .input)) (head .loop .at) in
+    let long = c .item-len .ensures ∙ ap (λ x. length (itemText x)) (listed .item-at .ensures) in
+    omega (arith, head .loop .inv .left, known .before .pre)
 
 returns : tie.Need-returns Inv-loop μ-loop
 returns c =
     let counted = c .before .before in
-    let told = counted .before in
-    counts-all (told .before .loop .inv) (told .said-at .ensures) (counted .said-len .ensures) (c .enum-told .given .1)
+    let listed = counted .before in
+    counts-all (listed .before .loop .inv) (listed .item-at .ensures) (counted .item-len .ensures) (c .enum-told .given .1)
 
 add-at : tie.Need-add-at Inv-loop μ-loop
 add-at c =
@@ -70,8 +72,8 @@ loop-again : tie.Need-loop-again Inv-loop μ-loop
 loop-again c =
     let arm = c .before .before in
     let counted = arm .before .before in
-    let told = counted .before in
-    counts-on (told .before .loop .inv) (told .said-at .ensures) (counted .said-len .ensures) (arm .said .given .1)
+    let listed = counted .before in
+    counts-on (listed .before .loop .inv) (listed .item-at .ensures) (counted .item-len .ensures) (arm .item .given .1)
 
 pub lines-len-spec : {M : Type 1} → statement M
 lines-len-spec =
@@ -80,8 +82,8 @@ lines-len-spec =
     Inv-loop
     μ-loop
     loop-holds
-    said-at-requires
-    said-len-requires
+    item-at-requires
+    item-len-requires
     add-len
     (λ c. search needs)
     (λ c. search needs)

@@ -1,5 +1,4 @@
 -- `listing_len` meets its contract: the first line has seven bytes beside its number.
--- Assumes nothing.
 use native.Mathlib.Omega.{arith}
 use denote.Ref.{now}
 use lib.ListN.{length}
@@ -17,7 +16,9 @@ add-result c =
 add-result-2 : tie.Need-add-result-2
 add-result-2 c =
     let start = c .before .before .before in
-    omega (arith, c .lines-len .ensures, c .before .decimal-len .ensures, four-digits (length (now (start .args .input))) (omega (arith, start .pre)), lines-small (now (start .args .input)) (λ i. c .before .before .shared-slice-known .given i .fits) (start .pre), start .pre)
+    let digits = four-digits (length (now (start .args .input))) (omega (arith, start .pre)) in
+    let lines = lines-small (now (start .args .input)) (λ i. c .before .before .shared-slice-known .given i .fits) (start .pre) in
+    omega (arith, c .lines-len .ensures, c .before .decimal-len .ensures, start .pre)
 
 returns : tie.Need-returns
 returns c =

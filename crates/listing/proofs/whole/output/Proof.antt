@@ -1,18 +1,17 @@
 -- `output` meets its contract: above the limit the line of refusal 22, else what `list` made.
--- Assumes nothing.
 use native.Mathlib.Omega.{arith}
 use Rattle.listing.proofs.AnswerLaws.{output-refused, output-listed}
 use borrow.Author.Needs.{needs}
 use Rattle.listing.proofs.whole.output.Statement.{statement}
 use Rattle.listing.proofs.whole.output.Tie as tie
 
-returns : tie.Need-returns
-returns c =
+too-long : tie.Need-returns
+too-long c =
     let placed = c .before .before in
     output-refused _ (omega (arith, placed .before .before .if1 .taken)) (placed .put-refused .ensures)
 
-returns-2 : tie.Need-returns-2
-returns-2 c =
+listed : tie.Need-returns-2
+listed c =
     let placed = c .before .before in
     output-listed _ (omega (arith, placed .before .before .if1 .left)) (placed .list .ensures)
 
@@ -22,7 +21,7 @@ output-spec =
     (tie.spec
     (λ c κs. search needs)
     (λ c. search needs)
-    returns
+    too-long
     (λ c κs. search needs)
     (λ c. search needs)
-    returns-2)
+    listed)

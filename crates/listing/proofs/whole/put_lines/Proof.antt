@@ -1,5 +1,4 @@
 -- `put_lines` meets its contract: after each turn the lines up to the place are put, and those from there on are left.
--- Assumes nothing.
 use mathlib.Core.Path.{sym, _∙_}
 use denote.Ref.{now}
 use Prim.Native.Nat.{_+_, _-_, _≤_}
@@ -21,23 +20,26 @@ abbrev μ-loop : tie.MeasureT-loop
 ended : (c : tie.After-struct-known Inv-loop μ-loop)
     → let arm = c .before .before in
     let head = arm .before .before .before .before .before .before .before in
-    (1 ≤ arm .said .given .0 .0 .len) × (head .loop .at + arm .said .given .0 .0 .len ≤ length (now (head .before .before .before .args .input)))
+    (1 ≤ arm .item .given .0 .0 .len) × (head .loop .at + arm .item .given .0 .0 .len ≤ length (now (head .before .before .before .args .input)))
 ended c =
     let arm = c .before .before in
     let head = arm .before .before .before .before .before .before .before in
-    ends-within _ _ (head .loop .inv .within) (sym (arm .before .before .before .before .before .before .said-at .ensures) ∙ arm .said .given .1)
+    ends-within _ _ (head .loop .inv .within) (sym (arm .before .before .before .before .before .before .item-at .ensures) ∙ arm .item .given .1)
 
 loop-holds : tie.Need-loop-holds Inv-loop μ-loop
 loop-holds c = starts (c .before .before .pre)
 
-said-at-requires : tie.Need-said-at-requires Inv-loop μ-loop
-said-at-requires c κs = c .loop .inv .within
-
-same-length : tie.Need-same-length Inv-loop μ-loop
-same-length c = kept (finishes (c .before .before .before .before .before .before .before .loop .inv) (c .before .before .before .before .before .before .said-at .ensures) (c .before .before .before .before .put-said .ensures) (c .enum-told .given .1))
+item-at-requires : tie.Need-item-at-requires Inv-loop μ-loop
+item-at-requires c κs = c .loop .inv .within
 
 returns : tie.Need-returns Inv-loop μ-loop
-returns c = finishes (c .before .before .before .before .before .before .before .loop .inv) (c .before .before .before .before .before .before .said-at .ensures) (c .before .before .before .before .put-said .ensures) (c .enum-told .given .1)
+returns c =
+    let put = c .before .before .before .before in
+    let listed = put .before .before in
+    finishes (listed .before .loop .inv) (listed .item-at .ensures) (put .put-item .ensures) (c .enum-told .given .1)
+
+same-length : tie.Need-same-length Inv-loop μ-loop
+same-length c = kept (returns c)
 
 add-at : tie.Need-add-at Inv-loop μ-loop
 add-at c =
@@ -52,7 +54,9 @@ loop-less c =
 loop-again : tie.Need-loop-again Inv-loop μ-loop
 loop-again c =
     let arm = c .before .before in
-    goes-on (arm .before .before .before .before .before .before .before .loop .inv) (arm .before .before .before .before .before .before .said-at .ensures) (arm .before .before .before .before .put-said .ensures) (arm .said .given .1)
+    let put = arm .before .before .before .before in
+    let listed = put .before .before in
+    goes-on (listed .before .loop .inv) (listed .item-at .ensures) (put .put-item .ensures) (arm .item .given .1)
 
 pub put-lines-spec : {M : Type 1} → statement M
 put-lines-spec =
@@ -61,7 +65,7 @@ put-lines-spec =
     Inv-loop
     μ-loop
     loop-holds
-    said-at-requires
+    item-at-requires
     (λ c κs. search needs)
     (λ c. search needs)
     (λ c. search needs)

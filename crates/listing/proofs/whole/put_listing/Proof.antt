@@ -1,5 +1,4 @@
 -- `put_listing` meets its contract: the first line and the lines are placed one behind the other.
--- Assumes nothing.
 use native.Mathlib.Omega.{arith}
 use Rattle.text.proofs.PlacedLaws.{then}
 use Rattle.listing.specs.Listing.{bytesLine, listingOf}

@@ -1,5 +1,4 @@
 -- `acts` meets its contract: each arm is a clause of `actsOf`.
--- Assumes nothing.
 use borrow.Author.Needs.{needs}
 use Rattle.responder.proofs.moves.acts.Statement.{statement}
 use Rattle.responder.proofs.moves.acts.Tie as tie
@@ -7,12 +6,12 @@ use Rattle.responder.proofs.moves.acts.Tie as tie
 ok : tie.Need-returns
 ok c =
     let o = c .before .before in
-    rw (o .before .before .enum-told .given .1) (o .write-ok .ensures)
+    rw (o .before .before .enum-told .given .1) (o .send-ok .ensures)
 
 held : tie.Need-returns-2
 held c =
     let o = c .before .before in
-    rw (o .before .before .enum-told2 .given .1) (o .write-held .ensures)
+    rw (o .before .before .enum-told2 .given .1) (o .send-held .ensures)
 
 handed-up : tie.Need-returns-3
 handed-up c = rw (c .before .before .action .given .1) (c .says .ensures _)

@@ -1,5 +1,4 @@
 -- `refuse` meets its contract. The search would find it unasked; the file makes a wrong `refuse` fail here, at the fact.
--- Assumes nothing.
 use borrow.Author.Needs.{needs}
 use Rattle.responder.proofs.moves.refuse.Statement.{statement}
 use Rattle.responder.proofs.moves.refuse.Tie as tie

@@ -1,5 +1,4 @@
 -- `blank` meets its contract: its row is the blank one.
--- Assumes nothing.
 use borrow.Author.Needs.{needs}
 use Rattle.responder.proofs.state.blank.Statement.{statement}
 use Rattle.responder.proofs.state.blank.Tie as tie

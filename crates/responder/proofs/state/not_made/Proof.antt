@@ -1,5 +1,4 @@
 -- `not_made` meets its contract: its record is the blank one of no station.
--- Assumes nothing.
 use borrow.Author.Needs.{needs}
 use Rattle.responder.proofs.state.not_made.Statement.{statement}
 use Rattle.responder.proofs.state.not_made.Tie as tie

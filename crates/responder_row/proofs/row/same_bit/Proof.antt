@@ -1,5 +1,4 @@
 -- `same_bit` meets its contract. The search would find it unasked; the file makes a wrong `same_bit` fail here, at the fact.
--- Assumes nothing.
 use borrow.Author.Needs.{needs}
 use Rattle.responder_row.proofs.row.same_bit.Statement.{statement}
 use Rattle.responder_row.proofs.row.same_bit.Tie as tie

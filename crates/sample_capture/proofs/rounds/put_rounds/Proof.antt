@@ -1,5 +1,4 @@
 -- `put_rounds` is safe and ends: the measure is the rounds that are left. The buffer keeps its length.
--- Assumes nothing.
 use mathlib.Core.Path.{_≡_}
 use Prim.Native.Nat.{_-_}
 use borrow.Author.Needs.{needs}

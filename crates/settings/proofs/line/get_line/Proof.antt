@@ -1,5 +1,4 @@
 -- `get_line` meets its contract: the tests of the definition, in its order. What is found lies within the text, so the places fit.
--- Assumes nothing.
 use mathlib.Core.Path.{_≡_, sym, _∙_}
 use mathlib.Core.Bool.{true}
 use Prim.Native.Nat.{_+_}
@@ -18,11 +17,13 @@ use Rattle.settings.proofs.line.get_line.Statement.{statement}
 use Rattle.settings.proofs.line.get_line.Tie as tie
 
 -- past the first test the name is there
-named : (c : tie.Else1) → begins (now (c .before .before .before .before .args .name)) (drop (c .before .before .before .before .args .at) (now (c .before .before .before .before .args .text))) ≡ true
+named : (c : tie.Else1)
+    → let start = c .before .before .before .before in
+    begins (now (start .args .name)) (drop (start .args .at) (now (start .args .text))) ≡ true
 named c = sym (c .before .begins-at .ensures) ∙ not-false _ (c .if1 .left)
 
-returns : tie.Need-returns
-returns c = sym (line-nameless _ _ _ (sym (c .before .begins-at .ensures) ∙ not-true _ (c .if1 .taken)))
+nameless : tie.Need-returns
+nameless c = sym (line-nameless _ _ _ (sym (c .before .begins-at .ensures) ∙ not-true _ (c .if1 .taken)))
 
 add-get-decimal : tie.Need-add-get-decimal
 add-get-decimal c =
@@ -41,20 +42,21 @@ cast-value c = omega (arith, number-read _ _ _ _ _ (number (c .before)) .within)
 add-t15 : tie.Need-add-t15
 add-t15 c =
     let start = c .before .before .before .before .before .before .before .before .before .before in
-    omega (arith, start .good, there-within _ (now (start .args .text)) (c .before .before .before .number .given .0 .1 .0) (sym (c .before .byte-is-at .ensures) ∙ c .if2 .taken))
+    let next = c .before .before .before .number .given .0 .1 .0 in
+    omega (arith, start .good, there-within _ (now (start .args .text)) next (sym (c .before .byte-is-at .ensures) ∙ c .if2 .taken))
 
-returns-2 : tie.Need-returns-2
-returns-2 c =
+found : tie.Need-returns-2
+found c =
     let arm = c .before .before .before in
     sym (line-found _ _ _ _ _ (named (arm .before .before .before)) (number arm) (sym (c .before .byte-is-at .ensures) ∙ c .if2 .taken))
 
-returns-3 : tie.Need-returns-3
-returns-3 c =
+endless : tie.Need-returns-3
+endless c =
     let arm = c .before .before .before in
     sym (line-endless _ _ _ _ _ (named (arm .before .before .before)) (number arm) (sym (c .before .byte-is-at .ensures) ∙ c .if2 .left))
 
-returns-4 : tie.Need-returns-4
-returns-4 c =
+numberless : tie.Need-returns-4
+numberless c =
     let read = c .before .before in
     sym (line-numberless _ _ _ (named (read .before)) (sym (read .get-decimal .ensures) ∙ c .enum-told .given .1))
 
@@ -63,7 +65,7 @@ get-line-spec =
     tie.close
     (tie.spec
     (λ c κs. search needs)
-    returns
+    nameless
     add-get-decimal
     (λ c κs. search needs)
     (λ c. search needs)
@@ -71,6 +73,6 @@ get-line-spec =
     (λ c κs. search needs)
     add-t15
     (λ c. search needs)
-    returns-2
-    returns-3
-    returns-4)
+    found
+    endless
+    numberless)

@@ -1,5 +1,4 @@
 -- `put_line` meets its contract: the name, the number and the line feed are placed one behind the other.
--- Assumes nothing.
 use borrow.Author.Needs.{needs}
 use Rattle.settings.proofs.LineLaws.{line-placed}
 use Rattle.settings.proofs.line.put_line.Statement.{statement}

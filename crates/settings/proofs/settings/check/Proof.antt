@@ -1,5 +1,4 @@
 -- `check` meets its contract: the tests of the rules, in their order.
--- Assumes nothing.
 use mathlib.Core.Path.{sym, _∙_}
 use borrow.Author.Needs.{needs}
 use Rattle.settings.proofs.RuleLaws.{rule-addresses, rule-tries, rule-none}

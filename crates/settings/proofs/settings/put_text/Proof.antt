@@ -1,5 +1,4 @@
 -- `put_text` meets its contract: the three lines are placed one behind the other.
--- Assumes nothing.
 use borrow.Author.Needs.{needs}
 use Rattle.settings.proofs.WritingLaws.{text-placed}
 use Rattle.settings.proofs.settings.put_text.Statement.{statement}

@@ -1,5 +1,4 @@
 -- `text_len` meets its contract: the lengths of the three numbers, each at most 3, and of what stands around them.
--- Assumes nothing.
 use Prim.Native.Nat.{ℕ, _<_, _≤_, _^_}
 use native.Mathlib.Omega.{arith}
 use borrow.Author.Needs.{needs}
@@ -31,7 +30,12 @@ shorts c =
 returns : tie.Need-returns
 returns c =
     let start = c .before .before .before in
-    rw (text-length (start .args .own) (start .args .peer) (start .args .tries), ← c .before .before .decimal-len .ensures, ← c .before .decimal-len2 .ensures, ← c .decimal-len3 .ensures)
+    rw (
+      text-length (start .args .own) (start .args .peer) (start .args .tries),
+      ← c .before .before .decimal-len .ensures,
+      ← c .before .decimal-len2 .ensures,
+      ← c .decimal-len3 .ensures,
+    )
 
 pub text-len-spec : {M : Type 1} → statement M
 text-len-spec =

@@ -1,5 +1,4 @@
 -- `count_hand_up` meets its contract: each arm is a clause of `carriedOutBy`.
--- Assumes nothing.
 use borrow.Author.Needs.{needs}
 use Rattle.stage.proofs.answers.count_hand_up.Statement.{statement}
 use Rattle.stage.proofs.answers.count_hand_up.Tie as tie

@@ -1,5 +1,4 @@
 -- `count_order` meets its contract: the test is that of `takenBy`.
--- Assumes nothing.
 use borrow.Author.Tests.{lt-ltb, le-ltb}
 use borrow.Author.Needs.{needs}
 use Rattle.stage.proofs.answers.count_order.Statement.{statement}

@@ -1,5 +1,4 @@
 -- `count_outcome` meets its contract: each arm is a clause of `endedBy`.
--- Assumes nothing.
 use borrow.Author.Needs.{needs}
 use Rattle.stage.proofs.answers.count_outcome.Statement.{statement}
 use Rattle.stage.proofs.answers.count_outcome.Tie as tie

@@ -1,5 +1,4 @@
 -- `one_more` meets its contract.
--- Assumes nothing.
 use borrow.Author.Tests.{lt-ltb, le-ltb}
 use borrow.Author.Needs.{needs}
 use Rattle.stage.proofs.answers.one_more.Statement.{statement}

@@ -1,13 +1,13 @@
 -- `head_end_submits` meets its contract: what is printed changes nothing of the step.
--- Assumes nothing.
 use mathlib.Core.Path.{ap}
-use Rattle.stage.specs.Stages.{InitiatorStepped}
+use Rattle.initiator.specs.Calls.{Outcome}
+use Rattle.stage.specs.Stages.{Stepped}
 use borrow.Author.Needs.{needs}
 use Rattle.stage.proofs.scenes.head_end_submits.Statement.{statement}
 use Rattle.stage.proofs.scenes.head_end_submits.Tie as tie
 
 returns : tie.Need-returns
-returns c = ap (λ (s : InitiatorStepped). s .stage) (c .before .before .submit .ensures)
+returns c = ap (λ (s : Stepped Outcome). s .stage) (c .before .before .submit .ensures)
 
 pub head-end-submits-spec : {M : Type 1} → statement M
 head-end-submits-spec =

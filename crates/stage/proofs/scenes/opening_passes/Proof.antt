@@ -1,5 +1,4 @@
 -- `opening_passes` meets its contract: two steps after one another.
--- Assumes nothing.
 use mathlib.Core.Path.{_∙_, ap}
 use Rattle.stage.specs.Stages.{initiatorHearStep}
 use Rattle.stage.specs.declared.state.Stage.{Stage}

@@ -1,5 +1,4 @@
 -- `after_initiator` meets its contract.
--- Assumes nothing.
 use borrow.Author.Needs.{needs}
 use Rattle.stage.proofs.steps.after_initiator.Statement.{statement}
 use Rattle.stage.proofs.steps.after_initiator.Tie as tie

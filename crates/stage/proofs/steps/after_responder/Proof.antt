@@ -1,5 +1,4 @@
 -- `after_responder` meets its contract.
--- Assumes nothing.
 use Rattle.stage.specs.Stages.{afterResponder}
 use borrow.Author.Needs.{needs}
 use Rattle.stage.proofs.steps.after_responder.Statement.{statement}

@@ -1,5 +1,4 @@
 -- `put_signs` is safe and ends: the measure is what is left of the bytes. The buffer keeps its length.
--- Assumes nothing.
 use mathlib.Core.Path.{_≡_}
 use Prim.Native.Nat.{_-_, _≤_}
 use borrow.Author.Needs.{needs}

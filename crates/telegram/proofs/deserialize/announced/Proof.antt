@@ -1,5 +1,4 @@
 -- `announced` meets its contract: of a byte, 128 is contained once or not at all.
--- Assumes nothing.
 use native.Mathlib.Omega.{arith}
 use borrow.Author.Needs.{needs}
 use Rattle.telegram.proofs.TopBitLaws.{top-counted}

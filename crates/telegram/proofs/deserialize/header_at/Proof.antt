@@ -1,5 +1,4 @@
 -- `header_at` meets its contract: field by field it is `headerAt`, with each SAP as `sap_at` ensures it.
--- Assumes nothing.
 use borrow.Author.Needs.{needs}
 use Rattle.telegram.specs.Reading.{headerAt}
 use Rattle.telegram.proofs.deserialize.header_at.Statement.{statement}

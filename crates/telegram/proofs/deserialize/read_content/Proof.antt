@@ -1,5 +1,4 @@
 -- `read_content` meets its contract: each return is a case of steps 5 to 7.
--- Assumes nothing.
 use mathlib.Core.Path.{sym}
 use native.Mathlib.Omega.{arith}
 use borrow.Author.Needs.{needs}

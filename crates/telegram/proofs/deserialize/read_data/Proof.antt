@@ -1,5 +1,4 @@
 -- `read_data` meets its contract: each return is a case of step 1.
--- Assumes nothing.
 use borrow.Author.Needs.{needs}
 use Rattle.telegram.proofs.Answers.{data-under, sd1-read, sd2-read, sd3-read}
 use Rattle.telegram.proofs.deserialize.read_data.Statement.{statement}

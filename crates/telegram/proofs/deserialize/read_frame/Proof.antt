@@ -1,5 +1,4 @@
 -- `read_frame` meets its contract: each return is a case of steps 3 and 4.
--- Assumes nothing.
 use mathlib.Core.Path.{sym, _∙_}
 use borrow.Author.Needs.{needs}
 use Rattle.telegram.proofs.Answers.{under-total, code-unknown, answer-frame, code-read}

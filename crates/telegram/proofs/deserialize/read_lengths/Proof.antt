@@ -1,5 +1,4 @@
 -- `read_lengths` meets its contract: each return is a case of step 2; a length byte is below 256.
--- Assumes nothing.
 use native.Mathlib.Omega.{arith}
 use borrow.Author.Needs.{needs}
 use Rattle.telegram.proofs.Answers.{differ-read, small-read, lengths-read}

@@ -1,5 +1,4 @@
 -- `read_token` meets its contract: under 3 bytes it is incomplete.
--- Assumes nothing.
 use borrow.Author.Needs.{needs}
 use Rattle.telegram.proofs.Answers.{token-under, token-read}
 use Rattle.telegram.proofs.deserialize.read_token.Statement.{statement}

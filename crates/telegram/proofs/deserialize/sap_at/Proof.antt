@@ -1,5 +1,4 @@
 -- `sap_at` meets its contract: its test is that of the top bit.
--- Assumes nothing.
 use borrow.Author.Needs.{needs}
 use borrow.Author.Tests.{le-leb, lt-leb}
 use Rattle.telegram.proofs.deserialize.sap_at.Statement.{statement}

@@ -1,5 +1,4 @@
 -- `saps_at` meets its contract: each call counts the SAP of one address.
--- Assumes nothing.
 use native.Mathlib.Omega.{arith}
 use borrow.Author.Needs.{needs}
 use Rattle.telegram.specs.Reading.{sapsAt}

@@ -1,6 +1,5 @@
 -- `copy_sum` meets its contract. The loop's invariant: the first i bytes are copied, and the sum so far and the bytes that
 -- are left add up to the whole.
--- Assumes nothing.
 use Prim.Native.Nat.{_≤_, _<_, _-_}
 use mathlib.Core.Path.{_≡_, refl}
 use native.Mathlib.Nat.{mod-lt}
@@ -8,7 +7,7 @@ use native.Mathlib.Omega.{arith}
 use lib.Dec.{lit<}
 use lib.ListN.{length, length-set}
 use borrow.Author.Needs.{needs}
-use Rattle.buffers.proofs.FrontLaws.{Copied, copy-starts, copy-goes-on, copy-ends}
+use Rattle.ground.proofs.FrontLaws.{Copied, copy-starts, copy-goes-on, copy-ends}
 use Rattle.codes.proofs.ChecksumLaws.{Summed, sum-starts, sum-goes-on, sum-ends}
 use Rattle.telegram_tx.proofs.put.copy_sum.Statement.{statement}
 use Rattle.telegram_tx.proofs.put.copy_sum.Tie as tie

@@ -1,5 +1,4 @@
 -- `put_address` meets its contract: each arm names the variant that it is for.
--- Assumes nothing.
 use borrow.Author.Needs.{needs}
 use Rattle.telegram_tx.proofs.put.put_address.Statement.{statement}
 use Rattle.telegram_tx.proofs.put.put_address.Tie as tie

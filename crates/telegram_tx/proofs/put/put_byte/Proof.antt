@@ -1,8 +1,7 @@
 -- `put_byte` meets its contract: one store, and one byte added.
--- Assumes nothing.
 use mathlib.Core.Path.{refl}
 use borrow.Author.Needs.{needs}
-use Rattle.telegram_tx.proofs.PlacingLaws.{byte-covered}
+use Rattle.telegram_tx.proofs.LeafLaws.{byte-covered}
 use Rattle.telegram_tx.proofs.put.put_byte.Statement.{statement}
 use Rattle.telegram_tx.proofs.put.put_byte.Tie as tie
 

@@ -1,7 +1,6 @@
 -- `put_pdu` meets its contract: what the copying leaf leaves in the lent part stands in the buffer from the place on.
--- Assumes nothing.
 use borrow.Author.Needs.{needs}
-use Rattle.telegram_tx.proofs.PlacingLaws.{part-placed}
+use Rattle.telegram_tx.proofs.LeafLaws.{part-stored}
 use Rattle.telegram_tx.proofs.put.put_pdu.Statement.{statement}
 use Rattle.telegram_tx.proofs.put.put_pdu.Tie as tie
 
@@ -9,7 +8,7 @@ returns : tie.Need-returns
 returns c =
     let copied = c .before .before .copy-sum .ensures in
     record {
-      placed = part-placed _ _ _ _ (c .before .before .before .before .before .before .pre) (copied .1);
+      stored = part-stored _ _ _ _ (c .before .before .before .before .before .before .pre) (copied .1);
       sum = copied .0;
     }
 

@@ -1,7 +1,6 @@
 -- `put_sap` meets its contract: each arm names the variant that it is for.
--- Assumes nothing.
 use borrow.Author.Needs.{needs}
-use Rattle.telegram_tx.proofs.PlacingLaws.{nothing-covered}
+use Rattle.telegram_tx.proofs.LeafLaws.{nothing-covered}
 use Rattle.telegram_tx.proofs.put.put_sap.Statement.{statement}
 use Rattle.telegram_tx.proofs.put.put_sap.Tie as tie
 

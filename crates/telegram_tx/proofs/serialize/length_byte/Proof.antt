@@ -1,5 +1,4 @@
 -- `length_byte` meets its contract: it is the law of the length byte.
--- Assumes nothing.
 use mathlib.Core.Path.{sym}
 use borrow.Author.Needs.{needs}
 use Rattle.telegram_tx.proofs.LengthLaws.{length-byte-is}

@@ -1,14 +1,13 @@
 -- `put_end` meets its contract: two stores.
--- Assumes nothing.
 use native.Mathlib.Omega.{arith}
 use lib.ListN.{length-set}
 use borrow.Author.Needs.{needs}
-use Rattle.telegram_tx.proofs.PlacingLaws.{two-placed}
+use Rattle.telegram_tx.proofs.LeafLaws.{two-stored}
 use Rattle.telegram_tx.proofs.serialize.put_end.Statement.{statement}
 use Rattle.telegram_tx.proofs.serialize.put_end.Tie as tie
 
 returns : tie.Need-returns
-returns c = two-placed _ _ _ _
+returns c = two-stored _ _ _ _
 
 pub put-end-spec : {M : Type 1} → statement M
 put-end-spec =

@@ -1,7 +1,6 @@
 -- `put_fixed` meets its contract: three bytes, one behind the other.
--- Assumes nothing.
 use borrow.Author.Needs.{needs}
-use Rattle.telegram_tx.proofs.PlacingLaws.{covers-then}
+use Rattle.telegram_tx.proofs.LeafLaws.{covers-then}
 use Rattle.telegram_tx.proofs.serialize.put_fixed.Statement.{statement}
 use Rattle.telegram_tx.proofs.serialize.put_fixed.Tie as tie
 

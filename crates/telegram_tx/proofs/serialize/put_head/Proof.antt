@@ -1,10 +1,9 @@
 -- `put_head` meets its contract: the SAPs stand behind da, sa and fc.
--- Assumes nothing.
 use native.Mathlib.Omega.{arith}
 use borrow.Author.Needs.{needs}
 use Rattle.telegram.specs.Picture.{headBytes}
 use Rattle.telegram_tx.proofs.LengthLaws.{head-length}
-use Rattle.telegram_tx.proofs.PlacingLaws.{covers-then}
+use Rattle.telegram_tx.proofs.LeafLaws.{covers-then}
 use Rattle.telegram_tx.proofs.serialize.put_head.Statement.{statement}
 use Rattle.telegram_tx.proofs.serialize.put_head.Tie as tie
 

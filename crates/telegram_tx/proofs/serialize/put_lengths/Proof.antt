@@ -1,15 +1,14 @@
 -- `put_lengths` meets its contract: four stores.
--- Assumes nothing.
 use mathlib.Core.List.{[], _∷_}
 use native.Mathlib.Omega.{arith}
 use lib.ListN.{length-set}
 use borrow.Author.Needs.{needs}
-use Rattle.telegram_tx.proofs.PlacingLaws.{stores-placed}
+use Rattle.telegram_tx.proofs.LeafLaws.{sets-stored}
 use Rattle.telegram_tx.proofs.serialize.put_lengths.Statement.{statement}
 use Rattle.telegram_tx.proofs.serialize.put_lengths.Tie as tie
 
 returns : tie.Need-returns
-returns c = stores-placed _ 0 (_ ∷ _ ∷ _ ∷ _ ∷ [])
+returns c = sets-stored _ 0 (_ ∷ _ ∷ _ ∷ _ ∷ [])
 
 pub put-lengths-spec : {M : Type 1} → statement M
 put-lengths-spec =

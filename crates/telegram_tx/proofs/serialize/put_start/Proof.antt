@@ -1,12 +1,11 @@
 -- `put_start` meets its contract: each length byte has its start, and each room is that of the whole telegram.
--- Assumes nothing.
 use mathlib.Core.Path.{refl}
 use mathlib.Core.List.{[], _∷_}
 use native.Mathlib.Omega.{arith}
 use borrow.Author.Needs.{needs}
 use Rattle.telegram_tx.proofs.LengthLaws.{start-3, start-11, start-else}
-use Rattle.telegram_tx.proofs.PlacingLaws.{stores-placed}
-use Rattle.telegram_tx.specs.Placing.{cramped, fitting}
+use Rattle.telegram_tx.proofs.LeafLaws.{sets-stored}
+use Rattle.telegram_tx.specs.Leaves.{cramped, fitting}
 use Rattle.telegram_tx.proofs.serialize.put_start.Statement.{statement}
 use Rattle.telegram_tx.proofs.serialize.put_start.Tie as tie
 
@@ -14,13 +13,13 @@ sd1-cramped : tie.Need-returns
 sd1-cramped c = rw (start-3 _ (c .before .if1 .taken)) (cramped (omega arith) refl refl)
 
 sd1 : tie.Need-returns-2
-sd1 c = rw (start-3 _ (c .before .if1 .taken)) (fitting (omega arith) (stores-placed _ 0 (_ ∷ [])))
+sd1 c = rw (start-3 _ (c .before .if1 .taken)) (fitting (omega arith) (sets-stored _ 0 (_ ∷ [])))
 
 sd3-cramped : tie.Need-returns-3
 sd3-cramped c = rw (start-11 _ (c .before .if3 .taken)) (cramped (omega arith) refl refl)
 
 sd3 : tie.Need-returns-4
-sd3 c = rw (start-11 _ (c .before .if3 .taken)) (fitting (omega arith) (stores-placed _ 0 (_ ∷ [])))
+sd3 c = rw (start-11 _ (c .before .if3 .taken)) (fitting (omega arith) (sets-stored _ 0 (_ ∷ [])))
 
 sd2-cramped : tie.Need-returns-5
 sd2-cramped c = rw (start-else _ (c .before .before .if1 .left) (c .before .if3 .left)) (cramped (omega arith) refl refl)

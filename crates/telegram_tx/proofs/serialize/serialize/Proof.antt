@@ -1,5 +1,4 @@
 -- `serialize` meets its contract: start, head, PDU and end, one behind the other, are the telegram; and where its start is not put, nothing is.
--- Assumes nothing.
 use mathlib.Core.Path.{refl}
 use Prim.Native.Nat.{_≤_}
 use native.Mathlib.Omega.{arith}
@@ -7,8 +6,8 @@ use lib.ListN.{length}
 use borrow.Author.Needs.{needs}
 use Rattle.telegram.specs.Picture.{telegramBytes}
 use Rattle.telegram_tx.proofs.LengthLaws.{length-byte-split, start-some, telegram-length}
-use Rattle.telegram_tx.proofs.PlacingLaws.{telegram-placed, told-cramped, told-fitting}
-use Rattle.telegram_tx.specs.Placing.{cramped, fitting}
+use Rattle.telegram_tx.proofs.LeafLaws.{telegram-stored, zero-cramped, past-zero-fitting}
+use Rattle.telegram_tx.specs.Leaves.{cramped, fitting}
 use Rattle.telegram_tx.proofs.serialize.serialize.Statement.{statement}
 use Rattle.telegram_tx.proofs.serialize.serialize.Tie as tie
 
@@ -16,14 +15,14 @@ no-room : tie.Need-returns
 no-room c =
     let p = c .before .before .before in
     let s = p .before .before .before .before in
-    let told = told-cramped (p .put-start .ensures) (start-some _) (c .if1 .taken) in
-    cramped (rw (telegram-length, ← s .pre .length-is) (told .0)) refl (told .1)
+    let short = zero-cramped (p .put-start .ensures) (start-some _) (c .if1 .taken) in
+    cramped (rw (telegram-length, ← s .pre .length-is) (short .0)) refl (short .1)
 
 -- what is known behind the test: the room, and the start in its place
 room : (c : tie.Else1) → length (telegramBytes (c .before .before .before .before .before .before .before .args .header) (c .before .before .before .before .before .before .before .args .pdu .now)) ≤ length (c .before .before .before .before .before .before .before .args .buf .now)
 room c =
     let p = c .before .before .before in
-    rw (telegram-length, ← p .before .before .before .before .pre .length-is) (told-fitting (p .put-start .ensures) (c .if1 .left) .0)
+    rw (telegram-length, ← p .before .before .before .before .pre .length-is) (past-zero-fitting (p .put-start .ensures) (c .if1 .left) .0)
 
 put-head-requires : tie.Need-put-head-requires
 put-head-requires c κs =
@@ -32,7 +31,7 @@ put-head-requires c κs =
     let s = p .before .before .before .before in
     let h = s .args .header in
     let pdu = s .args .pdu .now in
-    let start = rw (s .pre .length-is) at (told-fitting (p .put-start .ensures) (e .if1 .left) .1) in (
+    let start = rw (s .pre .length-is) at (past-zero-fitting (p .put-start .ensures) (e .if1 .left) .1) in (
       s .pre .destination,
       s .pre .source,
       omega (arith, start .next-place, room e, telegram-length h pdu, length-byte-split h pdu),
@@ -45,7 +44,7 @@ put-pdu-requires c κs =
     let s = p .before .before .before .before in
     let h = s .args .header in
     let pdu = s .args .pdu .now in
-    let start = rw (s .pre .length-is) at (told-fitting (p .put-start .ensures) (e .if1 .left) .1) in
+    let start = rw (s .pre .length-is) at (past-zero-fitting (p .put-start .ensures) (e .if1 .left) .1) in
     omega (arith, start .next-place, room e, telegram-length h pdu, length-byte-split h pdu)
 
 put-end-requires : tie.Need-put-end-requires
@@ -57,19 +56,19 @@ put-end-requires c κs =
     let s = p .before .before .before .before in
     let h = s .args .header in
     let pdu = s .args .pdu .now in
-    let start = rw (s .pre .length-is) at (told-fitting (p .put-start .ensures) (e .if1 .left) .1) in
-    omega (arith, start .next-place, p .put-start .kept, b .put-head .ensures .placed .next-place, b .put-head .kept, d .put-pdu .ensures .placed .next-place, d .put-pdu .kept, room e, telegram-length h pdu, length-byte-split h pdu)
+    let start = rw (s .pre .length-is) at (past-zero-fitting (p .put-start .ensures) (e .if1 .left) .1) in
+    omega (arith, start .next-place, p .put-start .kept, b .put-head .ensures .stored .next-place, b .put-head .kept, d .put-pdu .ensures .stored .next-place, d .put-pdu .kept, room e, telegram-length h pdu, length-byte-split h pdu)
 
-returns : tie.Need-returns-2
-returns c =
+written : tie.Need-returns-2
+written c =
     let d = c .before .before .before .before .before .before in
     let b = d .before .before .before .before in
     let e = b .before .before in
     let p = e .before .before .before in
     let s = p .before .before .before .before in
     fitting (room e)
-    (telegram-placed (s .args .header) (s .args .pdu .now)
-    (rw (s .pre .length-is) at (told-fitting (p .put-start .ensures) (e .if1 .left) .1))
+    (telegram-stored (s .args .header) (s .args .pdu .now)
+    (rw (s .pre .length-is) at (past-zero-fitting (p .put-start .ensures) (e .if1 .left) .1))
     (b .put-head .ensures)
     (d .put-pdu .ensures)
     (c .before .before .put-end .ensures))
@@ -85,4 +84,4 @@ serialize-spec =
     put-pdu-requires
     put-end-requires
     (λ c. search needs)
-    returns)
+    written)

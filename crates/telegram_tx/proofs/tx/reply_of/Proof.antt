@@ -1,5 +1,4 @@
 -- `reply_of` meets its contract: each arm names the variant that it is for.
--- Assumes nothing.
 use borrow.Author.Needs.{needs}
 use Rattle.telegram_tx.proofs.tx.reply_of.Statement.{statement}
 use Rattle.telegram_tx.proofs.tx.reply_of.Tie as tie

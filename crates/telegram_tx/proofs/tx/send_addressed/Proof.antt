@@ -1,9 +1,8 @@
 -- `send_addressed` meets its contract: the test for 9 is that of `writeOf`, and `serialize` tells whether there is room.
--- Assumes nothing.
 use native.Mathlib.Omega.{arith}
 use borrow.Author.Needs.{needs}
 use Rattle.telegram_tx.proofs.LengthLaws.{telegram-length}
-use Rattle.telegram_tx.proofs.PlacingLaws.{front-placed, told-cramped, told-fitting}
+use Rattle.telegram_tx.proofs.LeafLaws.{front-stored, zero-cramped, past-zero-fitting}
 use Rattle.telegram_tx.proofs.WritingLaws.{refused-9, refused-10, sent, refused-stays, sent-stands}
 use Rattle.telegram_tx.proofs.tx.send_addressed.Statement.{statement}
 use Rattle.telegram_tx.proofs.tx.send_addressed.Tie as tie
@@ -31,20 +30,22 @@ no-room c =
     let e = w .before .before in
     let s = e .before .before .before .before in
     let l = e .before .length-byte .ensures in
-    let told = told-cramped (w .serialize .ensures) (rw telegram-length (omega arith)) (c .if2 .taken) in
-    rw (told .1)
-    (refused-stays _ _ _ _ (refused-10 _ _ _ (s .pre .0) (s .pre .1) (rw l at (e .if1 .left)) (told .0)))
+    let cramped = zero-cramped (w .serialize .ensures) (rw telegram-length (omega arith)) (c .if2 .taken) in
+    rw (cramped .1)
+    (refused-stays _ _ _ _ (refused-10 _ _ _ (s .pre .0) (s .pre .1) (rw l at (e .if1 .left)) (cramped .0)))
 
-returns : tie.Need-returns-3
-returns c =
+written : tie.Need-returns-3
+written c =
     let f = c .before .before .before in
     let w = f .before .before .before in
     let e = w .before .before in
     let s = e .before .before .before .before in
-    let told = told-fitting (w .serialize .ensures) (f .if2 .left) in
-    let written = front-placed (told .0) (told .1) in
-    rw (c .new .ensures, written .0, c .before .reply-of .ensures)
-    (sent-stands _ _ _ _ _ (sent _ _ _ (s .pre .0) (s .pre .1) (rw (e .before .length-byte .ensures) at (e .if1 .left)) (told .0)) (written .1))
+    let fitting = past-zero-fitting (w .serialize .ensures) (f .if2 .left) in
+    let stands = front-stored (fitting .0) (fitting .1) in
+    rw (c .new .ensures, stands .0, c .before .reply-of .ensures)
+    (sent-stands _ _ _ _ _
+    (sent _ _ _ (s .pre .0) (s .pre .1) (rw (e .before .length-byte .ensures) at (e .if1 .left)) (fitting .0))
+    (stands .1))
 
 pub send-addressed-spec : {M : Type 1} → statement M
 send-addressed-spec =
@@ -58,4 +59,4 @@ send-addressed-spec =
     (λ c κs. search needs)
     (λ c κs. search needs)
     (λ c. search needs)
-    returns)
+    written)

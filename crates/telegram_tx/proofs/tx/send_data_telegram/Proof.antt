@@ -1,5 +1,4 @@
 -- `send_data_telegram` meets its contract: an address above 127 is refused first.
--- Assumes nothing.
 use borrow.Author.Needs.{needs}
 use Rattle.telegram_tx.proofs.WritingLaws.{refused-8-da, refused-8-sa, refused-stays}
 use Rattle.telegram_tx.proofs.tx.send_data_telegram.Statement.{statement}

@@ -1,5 +1,4 @@
 -- `send_short_confirmation` meets its contract: one store, where there is room for it.
--- Assumes nothing.
 use lib.ListN.{length-set}
 use borrow.Author.Needs.{needs}
 use Rattle.telegram.specs.Picture.{confirmationBytes}

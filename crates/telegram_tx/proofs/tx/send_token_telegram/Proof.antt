@@ -1,5 +1,4 @@
 -- `send_token_telegram` meets its contract: three stores, where there is room for them.
--- Assumes nothing.
 use native.Mathlib.Omega.{arith}
 use lib.ListN.{length-set}
 use borrow.Author.Needs.{needs}

@@ -1,5 +1,4 @@
 -- `put_decimal` meets its contract: the digits of n / 10 are placed, then the last one behind them. The measure is n.
--- Assumes nothing.
 use mathlib.Core.Path.{_∙_}
 use Prim.Native.Nat.{ℕ, _<_}
 use native.Mathlib.Omega.{arith}

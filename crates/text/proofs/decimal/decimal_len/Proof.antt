@@ -1,5 +1,4 @@
 -- `decimal_len` meets its contract: each turn takes the last digit away and counts it, and one is left at the end.
--- Assumes nothing.
 use mathlib.Core.Path.{_≡_}
 use Prim.Native.Nat.{_+_}
 use native.Mathlib.Omega.{arith}

@@ -1,5 +1,4 @@
 -- `digits_at` meets its contract: what the digits at `at` say is, at each turn, what those at `next` say read on from `value`.
--- Assumes nothing.
 use mathlib.Core.Path.{_≡_, refl, sym, _∙_}
 use mathlib.Core.Bool.{true}
 use Prim.Native.Nat.{_-_}
@@ -23,8 +22,8 @@ digit : (c : tie.Else1 Inv-loop μ-loop)
     → isDigit (getD (now (c .before .before .before .before .before .before .args .text)) (c .before .before .before .before .loop .next) 0) ≡ true
 digit c = sym (c .before .is-digit .ensures) ∙ not-false _ (c .if1 .left)
 
-returns : tie.Need-returns Inv-loop μ-loop
-returns c =
+at-another-byte : tie.Need-returns Inv-loop μ-loop
+at-another-byte c =
     let turn = c .before .before .before in
     left-end (turn .before .loop .inv)
     (digits-stop _ (turn .before .loop .next) (turn .loop-test .taken) (sym (c .before .is-digit .ensures) ∙ not-true _ (c .if1 .taken)))
@@ -37,8 +36,8 @@ loop-again c =
     let turn = c .before .before .before .before in
     left-turn (turn .before .loop .inv) (turn .loop-test .taken) (digit (c .before)) (c .append .ensures)
 
-returns-2 : tie.Need-returns-2 Inv-loop μ-loop
-returns-2 c = left-end (c .before .loop .inv) (digits-beyond _ (c .before .loop .next) (c .loop-test .left))
+at-the-end : tie.Need-returns-2 Inv-loop μ-loop
+at-the-end c = left-end (c .before .loop .inv) (digits-beyond _ (c .before .loop .next) (c .loop-test .left))
 
 pub digits-at-spec : {M : Type 1} → statement M
 digits-at-spec =
@@ -49,9 +48,9 @@ digits-at-spec =
     (λ c. record { number = refl; place = refl; bound = search needs })
     (λ c. search needs)
     (λ c κs. search needs)
-    returns
+    at-another-byte
     append-requires
     (λ c. search needs)
     (λ c. search needs)
     loop-again
-    returns-2)
+    at-the-end)

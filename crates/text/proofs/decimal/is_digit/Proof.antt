@@ -1,17 +1,16 @@
 -- `is_digit` meets its contract: the two tests of the definition, in its order.
--- Assumes nothing.
 use borrow.Author.Tests.{le-leb, lt-leb}
 use Rattle.text.specs.Decimal.{isDigit}
 use Rattle.text.proofs.decimal.is_digit.Statement.{statement}
 use Rattle.text.proofs.decimal.is_digit.Tie as tie
 
-returns : tie.Need-returns
+from-zero : tie.Need-returns
 unfolding isDigit
-returns c = rw (le-leb _ _ (c .if1 .taken))
+from-zero c = rw (le-leb _ _ (c .if1 .taken))
 
-returns-2 : tie.Need-returns-2
+below-zero : tie.Need-returns-2
 unfolding isDigit
-returns-2 c = rw (lt-leb _ _ (c .if1 .left))
+below-zero c = rw (lt-leb _ _ (c .if1 .left))
 
 pub is-digit-spec : {M : Type 1} → statement M
-is-digit-spec = tie.close (tie.spec returns returns-2)
+is-digit-spec = tie.close (tie.spec from-zero below-zero)

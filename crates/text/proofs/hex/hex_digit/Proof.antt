@@ -1,18 +1,17 @@
 -- `hex_digit` meets its contract: the digits and the letters stand in two rows of their own.
--- Assumes nothing.
 use borrow.Author.Needs.{needs}
 use borrow.Author.Tests.{lt-ltb, le-ltb}
 use Rattle.text.specs.Hex.{hexDigit}
 use Rattle.text.proofs.hex.hex_digit.Statement.{statement}
 use Rattle.text.proofs.hex.hex_digit.Tie as tie
 
-returns : tie.Need-returns
+numeral : tie.Need-returns
 unfolding hexDigit
-returns c = rw (lt-ltb _ _ (c .if1 .taken))
+numeral c = rw (lt-ltb _ _ (c .if1 .taken))
 
-returns-2 : tie.Need-returns-2
+letter : tie.Need-returns-2
 unfolding hexDigit
-returns-2 c = rw (le-ltb _ _ (c .if1 .left))
+letter c = rw (le-ltb _ _ (c .if1 .left))
 
 pub hex-digit-spec : {M : Type 1} → statement M
-hex-digit-spec = tie.close (tie.spec (λ c. search needs) (λ c. search needs) returns returns-2)
+hex-digit-spec = tie.close (tie.spec (λ c. search needs) (λ c. search needs) numeral letter)

@@ -1,5 +1,4 @@
 -- `put_hex_byte` meets its contract: the low digit goes behind the high one.
--- Assumes nothing.
 use borrow.Author.Needs.{needs}
 use Rattle.text.proofs.PlacedLaws.{then}
 use Rattle.text.proofs.hex.put_hex_byte.Statement.{statement}

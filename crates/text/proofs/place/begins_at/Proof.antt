@@ -1,5 +1,4 @@
 -- `begins_at` meets its contract: whether the bytes stand there is, after i turns, whether those left do.
--- Assumes nothing.
 use mathlib.Core.Bool.{Bool, true, false}
 use mathlib.Core.Path.{_≡_, sym, _∙_}
 use mathlib.Core.List.{[], _∷_}
@@ -24,7 +23,8 @@ abbrev μ-loop : tie.MeasureT-loop
 abbrev Answer : tie.After-byte-is-at Inv-loop μ-loop → Bool → Type 0
 Answer k t =
     let head = k .before .before .before in
-    begins (getD (now (head .before .before .before .args .bytes)) (head .loop .i) 0 ∷ []) (drop (head .loop .next) (now (head .before .before .before .args .text))) ≡ t
+    let start = head .before .before .before in
+    begins (getD (now (start .args .bytes)) (head .loop .i) 0 ∷ []) (drop (head .loop .next) (now (start .args .text))) ≡ t
 
 missing : (c : tie.Then1 Inv-loop μ-loop) → Answer (c .before) false
 missing c = sym (c .before .byte-is-at .ensures) ∙ not-true _ (c .if1 .taken)
@@ -32,10 +32,11 @@ missing c = sym (c .before .byte-is-at .ensures) ∙ not-true _ (c .if1 .taken)
 there : (c : tie.Else1 Inv-loop μ-loop) → Answer (c .before) true
 there c = sym (c .before .byte-is-at .ensures) ∙ not-false _ (c .if1 .left)
 
-returns : tie.Need-returns Inv-loop μ-loop
-returns c =
+not-there : tie.Need-returns Inv-loop μ-loop
+not-there c =
     let head = c .before .before .before .before in
-    sym (head .loop .inv .0 ∙ turn-last _ (now (head .before .before .before .args .text)) _ (head .loop .next) (c .before .before .before .loop-test .taken) (missing c))
+    let text = now (head .before .before .before .args .text) in
+    sym (head .loop .inv .0 ∙ turn-last _ text _ (head .loop .next) (c .before .before .before .loop-test .taken) (missing c))
 
 add-next : tie.Need-add-next Inv-loop μ-loop
 add-next c =
@@ -46,11 +47,12 @@ add-next c =
 loop-again : tie.Need-loop-again Inv-loop μ-loop
 loop-again c =
     let head = c .before .before .before .before in
-    (head .loop .inv .0 ∙ turn _ (now (head .before .before .before .args .text)) _ (head .loop .next) (c .before .before .before .loop-test .taken) (there c), search needs)
+    let text = now (head .before .before .before .args .text) in
+    (head .loop .inv .0 ∙ turn _ text _ (head .loop .next) (c .before .before .before .loop-test .taken) (there c), search needs)
 
-returns-2 : tie.Need-returns-2 Inv-loop μ-loop
+all-there : tie.Need-returns-2 Inv-loop μ-loop
 unfolding begins
-returns-2 c = sym (c .before .loop .inv .0 ∙ rw (drop-of-length-le _ (c .loop-test .left)))
+all-there c = sym (c .before .loop .inv .0 ∙ rw (drop-of-length-le _ (c .loop-test .left)))
 
 pub begins-at-spec : {M : Type 1} → statement M
 begins-at-spec =
@@ -61,9 +63,9 @@ begins-at-spec =
     (λ c. search needs)
     (λ c. search needs)
     (λ c κs. search needs)
-    returns
+    not-there
     (λ c. search needs)
     add-next
     (λ c. search needs)
     loop-again
-    returns-2)
+    all-there)

@@ -1,5 +1,4 @@
 -- `at_most` meets its contract. The search would find it unasked; the file makes a wrong `at_most` fail here, at the fact.
--- Assumes nothing.
 use borrow.Author.Needs.{needs}
 use Rattle.token_ring.proofs.flags.at_most.Statement.{statement}
 use Rattle.token_ring.proofs.flags.at_most.Tie as tie

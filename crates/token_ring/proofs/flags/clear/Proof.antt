@@ -1,5 +1,4 @@
 -- `clear` meets its contract: what is left to clear of the flags as they are is what was to be cleared of the flags as they came.
--- Assumes nothing.
 use mathlib.Core.Path.{_≡_, sym, _∙_}
 use Prim.Native.Nat.{_-_}
 use native.Mathlib.Numerals.{add-one}

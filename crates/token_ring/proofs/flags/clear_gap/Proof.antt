@@ -1,5 +1,4 @@
 -- `clear_gap` meets its contract: its test and its clearings are the definition's.
--- Assumes nothing.
 use mathlib.Core.Path.{sym, _∙_}
 use native.Mathlib.Omega.{arith}
 use borrow.Author.Needs.{needs}
@@ -11,13 +10,13 @@ use Rattle.token_ring.proofs.flags.clear_gap.Tie as tie
 clear-requires-3 : tie.Need-clear-requires-3
 clear-requires-3 c κs = (search needs, rw (c .before .clear2 .ensures) (length-cleared _ _ _ ∙ c .before .before .before .before .pre .1))
 
-returns : tie.Need-returns
-returns c = c .clear .ensures ∙ sym (swept-rise _ _ _ (omega (arith, c .before .before .if1 .taken)))
+rising : tie.Need-returns
+rising c = c .clear .ensures ∙ sym (swept-rise _ _ _ (omega (arith, c .before .before .if1 .taken)))
 
-returns-2 : tie.Need-returns-2
-returns-2 c =
+round : tie.Need-returns-2
+round c =
     c .clear3 .ensures ∙ rw (c .before .before .clear2 .ensures) (sym (swept-wrap _ _ _ (omega (arith, c .before .before .before .before .if1 .left))))
 
 pub clear-gap-spec : {M : Type 1} → statement M
 clear-gap-spec =
-    tie.close (tie.spec (λ c κs. search needs) (λ c κs. search needs) clear-requires-3 returns returns-2)
+    tie.close (tie.spec (λ c κs. search needs) (λ c κs. search needs) clear-requires-3 rising round)

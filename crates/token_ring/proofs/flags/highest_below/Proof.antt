@@ -1,5 +1,4 @@
 -- `highest_below` meets its contract: what is found below the place reached is what is found below the start.
--- Assumes nothing.
 use mathlib.Core.Path.{_≡_, sym, _∙_}
 use Prim.Native.Nat.{_≤_}
 use native.Mathlib.Omega.{arith}
@@ -18,15 +17,15 @@ abbrev μ-loop : tie.MeasureT-loop
 loop-holds : tie.Need-loop-holds Inv-loop μ-loop
 loop-holds c = (rw (c .at-most .ensures .place) (highest-clamped _ _ (c .before .pre)), c .at-most .ensures .bound)
 
-returns : tie.Need-returns Inv-loop μ-loop
-returns c = sym (highest-hit _ _ (omega arith) (omega arith) (c .if1 .taken)) ∙ c .before .before .before .loop .inv .0
+found : tie.Need-returns Inv-loop μ-loop
+found c = sym (highest-hit _ _ (omega arith) (omega arith) (c .if1 .taken)) ∙ c .before .before .before .loop .inv .0
 
 loop-again : tie.Need-loop-again Inv-loop μ-loop
 loop-again c =
     (sym (highest-miss _ _ (omega arith) (omega arith) (c .if1 .left)) ∙ c .before .before .before .loop .inv .0, search needs)
 
-returns-2 : tie.Need-returns-2 Inv-loop μ-loop
-returns-2 c = sym (highest-done _ _ (c .loop-test .left)) ∙ c .before .loop .inv .0
+nothing : tie.Need-returns-2 Inv-loop μ-loop
+nothing c = sym (highest-done _ _ (c .loop-test .left)) ∙ c .before .loop .inv .0
 
 pub highest-below-spec : {M : Type 1} → statement M
 highest-below-spec =
@@ -39,7 +38,7 @@ highest-below-spec =
     (λ c. search needs)
     (λ c. search needs)
     (λ c. search needs)
-    returns
+    found
     (λ c. search needs)
     loop-again
-    returns-2)
+    nothing)

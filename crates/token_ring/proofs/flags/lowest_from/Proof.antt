@@ -1,5 +1,4 @@
 -- `lowest_from` meets its contract: what is found from the place reached is what is found from the start.
--- Assumes nothing.
 use mathlib.Core.Path.{_≡_, sym, _∙_}
 use Prim.Native.Nat.{_-_}
 use native.Mathlib.Omega.{arith}
@@ -15,14 +14,14 @@ Inv-loop flags from at₀ at = lowestFrom at flags ≡ lowestFrom from flags
 abbrev μ-loop : tie.MeasureT-loop
 μ-loop flags from at₀ at = 128 - at
 
-returns : tie.Need-returns Inv-loop μ-loop
-returns c = sym (lowest-hit _ _ (omega arith) (c .if1 .taken)) ∙ c .before .before .before .loop .inv
+found : tie.Need-returns Inv-loop μ-loop
+found c = sym (lowest-hit _ _ (omega arith) (c .if1 .taken)) ∙ c .before .before .before .loop .inv
 
 loop-again : tie.Need-loop-again Inv-loop μ-loop
 loop-again c = sym (lowest-miss _ _ (omega arith) (c .if1 .left)) ∙ c .before .before .before .loop .inv
 
-returns-2 : tie.Need-returns-2 Inv-loop μ-loop
-returns-2 c = sym (lowest-done _ _ (omega arith)) ∙ c .before .loop .inv
+nothing : tie.Need-returns-2 Inv-loop μ-loop
+nothing c = sym (lowest-done _ _ (omega arith)) ∙ c .before .loop .inv
 
 pub lowest-from-spec : {M : Type 1} → statement M
 lowest-from-spec =
@@ -33,8 +32,8 @@ lowest-from-spec =
     (λ c. search needs)
     (λ c. search needs)
     (λ c. search needs)
-    returns
+    found
     (λ c. search needs)
     (λ c. search needs)
     loop-again
-    returns-2)
+    nothing)

@@ -1,5 +1,4 @@
 -- `none_between` meets its contract: nothing is set from the start where none was counted and nothing is set from the place reached.
--- Assumes nothing.
 use mathlib.Core.Bool.{false, _&&_}
 use mathlib.Core.Path.{_≡_, sym, _∙_}
 use Prim.Native.Nat.{_≤_, _<_, _-_}

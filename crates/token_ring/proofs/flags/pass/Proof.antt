@@ -1,5 +1,4 @@
 -- `pass` meets its contract: the gap is cleared, and the source is set.
--- Assumes nothing.
 use mathlib.Core.Path.{_∙_}
 use borrow.Author.Needs.{needs}
 use Rattle.token_ring.specs.Rules.{passed}

@@ -1,5 +1,4 @@
 -- `verify` meets its contract: its tests are the definition's, in the same order.
--- Assumes nothing.
 use mathlib.Core.Path.{sym, _∙_}
 use borrow.Author.Needs.{needs}
 use borrow.Author.Tests.{not-true, not-false}
@@ -7,26 +6,26 @@ use Rattle.token_ring.proofs.RuleLaws.{holds-no-sa, holds-no-da, holds-
 use Rattle.token_ring.proofs.flags.verify.Statement.{statement}
 use Rattle.token_ring.proofs.flags.verify.Tie as tie
 
-returns : tie.Need-returns
-returns c = sym (holds-no-sa _ _ _ (not-true _ (c .if1 .taken)))
+source-unset : tie.Need-returns
+source-unset c = sym (holds-no-sa _ _ _ (not-true _ (c .if1 .taken)))
 
-returns-2 : tie.Need-returns-2
-returns-2 c = sym (holds-no-da _ _ _ (not-false _ (c .before .before .if1 .left)) (not-true _ (c .if2 .taken)))
+destination-unset : tie.Need-returns-2
+destination-unset c = sym (holds-no-da _ _ _ (not-false _ (c .before .before .if1 .left)) (not-true _ (c .if2 .taken)))
 
-returns-3 : tie.Need-returns-3
-returns-3 c =
+rising : tie.Need-returns-3
+rising c =
     let p = c .before .before in
     c .none-between .ensures
     ∙ sym (holds-rise _ _ _ (not-false _ (p .before .before .if1 .left)) (not-false _ (p .if2 .left)) (c .before .if3 .taken))
 
-returns-4 : tie.Need-returns-4
-returns-4 c =
+not-quiet-above : tie.Need-returns-4
+not-quiet-above c =
     let p = c .before .before .before in
     sym (holds-wrap _ _ _ (not-false _ (p .before .before .if1 .left)) (not-false _ (p .if2 .left)) (c .before .before .if3 .left)
     ∙ rw (sym (c .before .none-between2 .ensures) ∙ not-true _ (c .if4 .taken)))
 
-returns-5 : tie.Need-returns-5
-returns-5 c =
+round : tie.Need-returns-5
+round c =
     let n = c .before .before in
     let p = n .before .before in
     c .none-between3 .ensures
@@ -38,14 +37,14 @@ verify-spec =
     tie.close
     (tie.spec
     (λ c. search needs)
-    returns
+    source-unset
     (λ c. search needs)
-    returns-2
-    (λ c. search needs)
-    (λ c κs. search needs)
-    returns-3
+    destination-unset
     (λ c. search needs)
     (λ c κs. search needs)
-    returns-4
+    rising
+    (λ c. search needs)
     (λ c κs. search needs)
-    returns-5)
+    not-quiet-above
+    (λ c κs. search needs)
+    round)

@@ -1,5 +1,4 @@
 -- `fresh_ring` meets its contract: the record is written out, field by field.
--- Assumes nothing.
 use mathlib.Core.Path.{refl}
 use borrow.Author.Needs.{needs}
 use Rattle.token_ring.specs.Rules.{fresh}

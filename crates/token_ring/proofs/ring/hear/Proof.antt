@@ -1,27 +1,26 @@
 -- `hear` meets its contract: each arm does what its phase says.
--- Assumes nothing.
 use mathlib.Core.Path.{refl}
 use borrow.Author.Needs.{needs}
 use Rattle.token_ring.specs.Rules.{effectOf}
 use Rattle.token_ring.proofs.ring.hear.Statement.{statement}
 use Rattle.token_ring.proofs.ring.hear.Tie as tie
 
-returns : tie.Need-returns
+uninitialized : tie.Need-returns
 unfolding effectOf
-returns c = rw (c .before .enum-told .given .1) (record { state = c .after-wrap .ensures; updated = refl; flags = refl })
+uninitialized c = rw (c .before .enum-told .given .1) (record { state = c .after-wrap .ensures; updated = refl; flags = refl })
 
-returns-2 : tie.Need-returns-2
+discovery : tie.Need-returns-2
 unfolding effectOf
-returns-2 c =
+discovery c =
     rw (c .before .before .before .enum-told2 .given .1)
     (record { state = c .after-wrap2 .ensures; updated = refl; flags = c .before .pass .ensures })
 
-returns-3 : tie.Need-returns-3
-returns-3 c = rw (c .before .before .enum-told3 .given .1) (c .hear-verification .ensures)
+verification : tie.Need-returns-3
+verification c = rw (c .before .before .enum-told3 .given .1) (c .hear-verification .ensures)
 
-returns-4 : tie.Need-returns-4
+valid : tie.Need-returns-4
 unfolding effectOf
-returns-4 c =
+valid c =
     rw (c .before .before .enum-told4 .given .1) (record { state = refl; updated = refl; flags = c .pass2 .ensures })
 
 pub hear-spec : {M : Type 1} → statement M
@@ -37,7 +36,7 @@ hear-spec =
     (λ c κs. search needs)
     (λ c. search needs)
     (λ c κs. search needs)
-    returns
-    returns-2
-    returns-3
-    returns-4)
+    uninitialized
+    discovery
+    verification
+    valid)

@@ -1,5 +1,4 @@
 -- `FrameCountBit::cycle` meets its contract: each arm names the variant that it is for.
--- Assumes nothing.
 use Rattle.codes.proofs.frame_count_bit.FrameCountBit.cycle.Statement.{statement}
 use Rattle.codes.proofs.frame_count_bit.FrameCountBit.cycle.Tie as tie
 

@@ -1,5 +1,4 @@
 -- `FrameCountBit::fcb` meets its contract: each arm names the variant that it is for.
--- Assumes nothing.
 use Rattle.codes.proofs.frame_count_bit.FrameCountBit.fcb.Statement.{statement}
 use Rattle.codes.proofs.frame_count_bit.FrameCountBit.fcb.Tie as tie
 

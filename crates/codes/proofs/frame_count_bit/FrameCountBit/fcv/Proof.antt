@@ -1,5 +1,4 @@
 -- `FrameCountBit::fcv` meets its contract: each arm names the variant that it is for.
--- Assumes nothing.
 use Rattle.codes.proofs.frame_count_bit.FrameCountBit.fcv.Statement.{statement}
 use Rattle.codes.proofs.frame_count_bit.FrameCountBit.fcv.Tie as tie
 

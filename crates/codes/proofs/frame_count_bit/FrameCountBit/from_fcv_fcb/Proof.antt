@@ -1,6 +1,5 @@
 -- `FrameCountBit::from_fcv_fcb` meets its contract: each branch is a clause of `frameCountBitOf`. The search would find it unasked; the file
 -- makes a wrong branch fail here, at the fact.
--- Assumes nothing.
 use Rattle.codes.proofs.frame_count_bit.FrameCountBit.from_fcv_fcb.Statement.{statement}
 use Rattle.codes.proofs.frame_count_bit.FrameCountBit.from_fcv_fcb.Tie as tie
 

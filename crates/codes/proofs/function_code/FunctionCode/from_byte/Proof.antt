@@ -1,5 +1,4 @@
 -- `FunctionCode::from_byte` meets its contract: its calls find what `functionCodeOf` is made of, on either side of bit 6.
--- Assumes nothing.
 use mathlib.Core.Path.{refl, sym, _∙_}
 use borrow.Author.Needs.{needs}
 use Rattle.codes.specs.declared.request_type.RequestTypeFound.the-variants as requestFound

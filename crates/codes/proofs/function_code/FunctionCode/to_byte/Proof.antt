@@ -1,5 +1,4 @@
 -- `FunctionCode::to_byte` meets its contract: each arm is a clause of `codeByte`, and its sums stay in a byte.
--- Assumes nothing.
 use borrow.Author.Needs.{needs}
 use native.Mathlib.Omega.{arith}
 use Rattle.codes.specs.FunctionCodes.{codeByte}

@@ -1,5 +1,4 @@
 -- `RequestType::expects_reply` meets its contract: each arm names the variant that it is for.
--- Assumes nothing.
 use Rattle.codes.proofs.request_type.RequestType.expects_reply.Statement.{statement}
 use Rattle.codes.proofs.request_type.RequestType.expects_reply.Tie as tie
 

@@ -1,5 +1,4 @@
 -- `RequestType::number` meets its contract: each arm names the variant that it is for.
--- Assumes nothing.
 use Rattle.codes.proofs.request_type.RequestType.number.Statement.{statement}
 use Rattle.codes.proofs.request_type.RequestType.number.Tie as tie
 

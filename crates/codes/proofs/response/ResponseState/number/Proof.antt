@@ -1,5 +1,4 @@
 -- `ResponseState::number` meets its contract: each arm names the variant that it is for.
--- Assumes nothing.
 use Rattle.codes.proofs.response.ResponseState.number.Statement.{statement}
 use Rattle.codes.proofs.response.ResponseState.number.Tie as tie
 

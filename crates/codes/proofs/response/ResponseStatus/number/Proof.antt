@@ -1,5 +1,4 @@
 -- `ResponseStatus::number` meets its contract: each arm names the variant that it is for.
--- Assumes nothing.
 use Rattle.codes.proofs.response.ResponseStatus.number.Statement.{statement}
 use Rattle.codes.proofs.response.ResponseStatus.number.Tie as tie
 

@@ -1,5 +1,4 @@
 -- `ChannelDataType::into_diag_byte2` meets its contract: each arm names the variant that it is for.
--- Assumes nothing.
 use borrow.Author.Needs.{needs}
 use Rattle.diagnostics.proofs.channel.ChannelDataType.into_diag_byte2.Statement.{statement}
 use Rattle.diagnostics.proofs.channel.ChannelDataType.into_diag_byte2.Tie as tie

@@ -1,5 +1,4 @@
 -- `ChannelDiagnostics::from_diag_bytes` meets its contract: type and error are what the two calls ensure, the rest is the definition.
--- Assumes nothing.
 use borrow.Author.Needs.{needs}
 use Rattle.diagnostics.proofs.channel.ChannelDiagnostics.from_diag_bytes.Statement.{statement}
 use Rattle.diagnostics.proofs.channel.ChannelDiagnostics.from_diag_bytes.Tie as tie

@@ -1,5 +1,4 @@
 -- `next` meets its contract: it hands what is walked on.
--- Assumes nothing.
 use borrow.Author.Needs.{needs}
 use Rattle.diagnostics.proofs.walk.ExtDiagBlockIter.next.Statement.{statement}
 use Rattle.diagnostics.proofs.walk.ExtDiagBlockIter.next.Tie as tie

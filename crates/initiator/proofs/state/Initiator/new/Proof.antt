@@ -1,5 +1,4 @@
 -- `Initiator::new` meets its contract: each way through it is a law of `madeOf`.
--- Assumes nothing.
 use mathlib.Core.Path.{sym, _∙_}
 use borrow.Author.Needs.{needs}
 use Rattle.initiator.proofs.RecordLaws as laws
@@ -9,7 +8,7 @@ use Rattle.initiator.proofs.state.Initiator.new.Tie as tie
 addresses : tie.Need-returns
 addresses c =
     rw (c .not-made .ensures)
-    (sym (laws.addresses-refused _ _ _ (sym (c .before .before .wrong-addresses .ensures) ∙ c .before .if1 .taken)))
+    (sym (laws.addresses-refused _ _ (sym (c .before .before .wrong-addresses .ensures) ∙ c .before .if1 .taken)))
 
 tries : tie.Need-returns-2
 tries c =
@@ -17,7 +16,7 @@ tries c =
     let a = t .before in
     rw (c .not-made2 .ensures)
     (sym
-    (laws.tries-refused _ _ _ (sym (a .before .wrong-addresses .ensures) ∙ a .if1 .left)
+    (laws.tries-refused _ _ (sym (a .before .wrong-addresses .ensures) ∙ a .if1 .left)
     (sym (t .wrong-tries .ensures) ∙ c .before .if2 .taken)))
 
 made : tie.Need-returns-3
@@ -26,7 +25,7 @@ made c =
     let a = t .before in
     rw (c .closed .ensures)
     (sym
-    (laws.made _ _ _ (sym (a .before .wrong-addresses .ensures) ∙ a .if1 .left)
+    (laws.made _ _ (sym (a .before .wrong-addresses .ensures) ∙ a .if1 .left)
     (sym (t .wrong-tries .ensures) ∙ c .before .if2 .left)))
 
 pub new-spec : {M : Type 1} → statement M

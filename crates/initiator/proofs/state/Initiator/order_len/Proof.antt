@@ -1,5 +1,4 @@
 -- `Initiator::order_len` meets its contract: its test is that of `lenOf`.
--- Assumes nothing.
 use mathlib.Core.Path.{sym}
 use Rattle.initiator.proofs.OrderLaws.{len-within, len-past}
 use Rattle.initiator.proofs.state.Initiator.order_len.Statement.{statement}

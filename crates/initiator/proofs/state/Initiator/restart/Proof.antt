@@ -1,5 +1,4 @@
 -- `Initiator::restart` meets its contract: each arm is a clause of `restartIn`.
--- Assumes nothing.
 use borrow.Author.Needs.{needs}
 use mathlib.Core.Path.{sym, _∙_}
 use mathlib.Core.List.{[]}

@@ -1,8 +1,7 @@
 -- `Initiator::silence` meets its contract: each way through it is a law of `silenceOf`.
--- Assumes nothing.
 use borrow.Author.Needs.{needs}
 use mathlib.Core.Path.{sym, _∙_}
-use Rattle.initiator.proofs.CallLaws.{silence-short, silence-at, silence-asks, silence-not-sent, silence-sends, silence-unknown}
+use Rattle.initiator.proofs.CallLaws.{silence-short, silence-at, silence-opens, silence-not-sent, silence-sends, silence-unknown}
 use Rattle.initiator.proofs.state.Initiator.silence.Statement.{statement}
 use Rattle.initiator.proofs.state.Initiator.silence.Tie as tie
 
@@ -19,12 +18,12 @@ ready c =
     let m = c .before in
     c .nothing2 .ensures _ ∙ sym (silence-at _ _ (m .before .before .if1 .left) (m .enum-told2 .given .1))
 
-asks-again : tie.Need-returns-4
-asks-again c =
+opens-again : tie.Need-returns-4
+opens-again c =
     let y = c .before .before in
     let t = y .before .before in
     let m = t .before .before in
-    y .asks .ensures ∙ sym (silence-asks _ _ (m .before .before .if1 .left) (m .phase .given .1) (t .if2 .taken))
+    y .send-opening .ensures ∙ sym (silence-opens _ _ (m .before .before .if1 .left) (m .phase .given .1) (t .if2 .taken))
 
 not-sent : tie.Need-returns-5
 not-sent c =
@@ -37,7 +36,7 @@ sends-again c =
     let y = c .before .before in
     let t = y .before .before in
     let m = t .before .before in
-    y .sends .ensures ∙ sym (silence-sends _ _ (m .before .before .if1 .left) (m .phase2 .given .1) (t .if3 .taken))
+    y .send-order .ensures ∙ sym (silence-sends _ _ (m .before .before .if1 .left) (m .phase2 .given .1) (t .if3 .taken))
 
 unknown : tie.Need-returns-7
 unknown c =
@@ -66,7 +65,7 @@ silence-spec =
     closed
     ready
     (λ c. search needs)
-    asks-again
+    opens-again
     not-sent
     (λ c. search needs)
     sends-again

@@ -1,5 +1,4 @@
 -- `Initiator::submit` meets its contract: each way through it is a law of `submitOf`.
--- Assumes nothing.
 use borrow.Author.Needs.{needs}
 use mathlib.Core.Path.{sym, _∙_}
 use Rattle.initiator.proofs.CallLaws.{submit-short, submit-at, submit-opens, submit-sends, submit-wrong-closed, submit-wrong-ready}
@@ -34,7 +33,7 @@ opens c =
     let e = k .before in
     let w = e .before in
     let m = w .before in
-    y .asks .ensures
+    y .send-opening .ensures
     ∙ rw (k .keep .ensures)
     (sym
     (submit-opens _ _ _ (m .before .before .if1 .left) (m .enum-told .given .1)
@@ -47,7 +46,7 @@ sends-order c =
     let e = k .before in
     let w = e .before in
     let m = w .before .before in
-    y .sends .ensures
+    y .send-order .ensures
     ∙ rw (k .keep2 .ensures)
     (sym
     (submit-sends _ _ _ (m .before .before .if1 .left) (m .phase .given .1)

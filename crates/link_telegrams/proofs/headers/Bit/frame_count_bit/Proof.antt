@@ -1,5 +1,4 @@
 -- `Bit::frame_count_bit` meets its contract. The search would find it unasked; the file makes a wrong bit fail here, at the fact.
--- Assumes nothing.
 use borrow.Author.Needs.{needs}
 use Rattle.link_telegrams.proofs.headers.Bit.frame_count_bit.Statement.{statement}
 use Rattle.link_telegrams.proofs.headers.Bit.frame_count_bit.Tie as tie

@@ -1,29 +1,25 @@
 -- `Responder::answer` meets its contract: the room is asked for first, then the row takes the answer or refuses it.
--- Assumes nothing.
 use borrow.Author.Needs.{needs}
-use borrow.Author.Tests.{lt-ltb, le-ltb}
-use Rattle.responder.specs.Calls.{answerOf}
+use mathlib.Core.Path.{sym, _∙_}
+use Rattle.responder.proofs.CallLaws.{answer-short, answer-at}
 use Rattle.responder.proofs.state.Responder.answer.Statement.{statement}
 use Rattle.responder.proofs.state.Responder.answer.Tie as tie
 
 no-room : tie.Need-returns
-unfolding answerOf
-no-room c = rw (lt-ltb _ _ (c .before .if1 .taken)) (c .refuse .ensures _)
+no-room c = c .refuse .ensures _ ∙ sym (answer-short _ _ _ (c .before .if1 .taken))
 
 replied : tie.Need-returns-2
-unfolding answerOf
 replied c =
     let r = c .before .before in
     let t = r .before .before in
     let a = t .before .before .before in
-    rw (le-ltb _ _ (a .before .before .if1 .left), ← a .answer .ensures .0, t .enum-told .given .1) (r .write-reply .ensures)
+    rw (answer-at _ _ _ (a .before .before .if1 .left), ← a .answer .ensures .0, t .enum-told .given .1) (r .send-reply .ensures)
 
 refused : tie.Need-returns-3
-unfolding answerOf
 refused c =
     let t = c .before .before in
     let a = t .before .before .before in
-    rw (le-ltb _ _ (a .before .before .if1 .left), ← a .answer .ensures .0, t .answer2 .given .1) (c .refuse2 .ensures _)
+    rw (answer-at _ _ _ (a .before .before .if1 .left), ← a .answer .ensures .0, t .answer2 .given .1) (c .refuse2 .ensures _)
 
 pub answer-spec : {M : Type 1} → statement M
 answer-spec =

@@ -1,5 +1,4 @@
 -- `Responder::hear` meets its contract: the room is asked for first, then the row goes by what was heard.
--- Assumes nothing.
 use borrow.Author.Needs.{needs}
 use mathlib.Core.Path.{sym, _∙_}
 use Rattle.responder.proofs.CallLaws.{hear-short, hear-goes}
@@ -13,7 +12,7 @@ heard : tie.Need-returns-2
 heard c =
     let a = c .before .before in
     let h = a .before .before .before in
-    let e = h .before .before .before .before .before in
+    let e = h .before .before .before .before in
     a .acts .ensures
     ∙ hear-goes _ _ _ _ _ (e .if1 .left) (h .before .request-heard .ensures) (h .hear .ensures)
 

@@ -1,5 +1,4 @@
 -- `Responder::new` meets its contract: each way through it is a law of `madeOf`.
--- Assumes nothing.
 use mathlib.Core.Path.{sym, _∙_}
 use borrow.Author.Needs.{needs}
 use Rattle.responder.proofs.RecordLaws as laws
@@ -9,11 +8,11 @@ use Rattle.responder.proofs.state.Responder.new.Tie as tie
 addresses : tie.Need-returns
 addresses c =
     rw (c .not-made .ensures)
-    (sym (laws.addresses-refused _ _ (sym (c .before .before .wrong-addresses .ensures) ∙ c .before .if1 .taken)))
+    (sym (laws.addresses-refused _ (sym (c .before .before .wrong-addresses .ensures) ∙ c .before .if1 .taken)))
 
 made : tie.Need-returns-2
 made c =
-    rw (c .blank .ensures) (sym (laws.made _ _ (sym (c .before .before .wrong-addresses .ensures) ∙ c .before .if1 .left)))
+    rw (c .blank .ensures) (sym (laws.made _ (sym (c .before .before .wrong-addresses .ensures) ∙ c .before .if1 .left)))
 
 pub new-spec : {M : Type 1} → statement M
 new-spec =

@@ -1,8 +1,7 @@
 -- `Row::answer` meets its contract: each arm is a clause of `answersIn`.
--- Assumes nothing.
 use borrow.Author.Needs.{needs}
 use mathlib.Core.Path.{refl, sym, _∙_, ap}
-use Rattle.codes.specs.Refusals.{gives}
+use Rattle.ground.specs.Refusals.{gives}
 use Rattle.responder_row.proofs.RowLaws.{answer-refused, answer-accepted, answer-long, answer-fits}
 use Rattle.responder_row.proofs.row.Row.answer.Statement.{statement}
 use Rattle.responder_row.proofs.row.Row.answer.Tie as tie

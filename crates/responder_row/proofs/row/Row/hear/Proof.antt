@@ -1,5 +1,4 @@
 -- `Row::hear` meets its contract: each arm is a clause of `rowHears`.
--- Assumes nothing.
 use borrow.Author.Needs.{needs}
 use Rattle.responder_row.specs.Rows.{rowHears}
 use Rattle.responder_row.proofs.row.Row.hear.Statement.{statement}

@@ -1,5 +1,4 @@
 -- `hear_again` meets its contract: each arm is a clause of `againOn`.
--- Assumes nothing.
 use borrow.Author.Needs.{needs}
 use mathlib.Core.Path.{refl}
 use Rattle.responder_row.proofs.RowLaws.{again-as}

@@ -1,5 +1,4 @@
 -- `hear_order` meets its contract: the stored bit is asked for first, then whether the order's is the same.
--- Assumes nothing.
 use borrow.Author.Needs.{needs}
 use Rattle.responder_row.proofs.row.Row.hear_order.Statement.{statement}
 use Rattle.responder_row.proofs.row.Row.hear_order.Tie as tie

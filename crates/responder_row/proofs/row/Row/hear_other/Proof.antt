@@ -1,5 +1,4 @@
 -- `hear_other` meets its contract: its test is that of `otherOn`.
--- Assumes nothing.
 use mathlib.Core.Path.{sym, _∙_}
 use borrow.Author.Needs.{needs}
 use Rattle.responder_row.proofs.RowLaws.{other-ignored, other-handed-up}

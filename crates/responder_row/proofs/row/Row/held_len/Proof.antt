@@ -1,5 +1,4 @@
 -- `held_len` meets its contract: the array has 246 bytes, and the held reply is no longer.
--- Assumes nothing.
 use borrow.Author.Needs.{needs}
 use mathlib.Core.Path.{_≡_}
 use native.Mathlib.Omega.{arith}

@@ -1,10 +1,9 @@
 -- `hold` meets its contract: the array has room for the reply, which goes to its front.
--- Assumes nothing.
 use mathlib.Core.Path.{_≡_}
 use Prim.Native.Nat.{_≤_}
 use lib.ListN.{length}
 use borrow.Author.Needs.{needs}
-use Rattle.buffers.proofs.FrontLaws.{copied-fits}
+use Rattle.ground.proofs.FrontLaws.{copied-fits}
 use Rattle.responder_row.proofs.row.Row.hold.Statement.{statement}
 use Rattle.responder_row.proofs.row.Row.hold.Tie as tie
 

@@ -1,5 +1,4 @@
 -- `Row::ignore` meets its contract. The search would find it unasked; the file makes a wrong `ignore` fail here, at the fact.
--- Assumes nothing.
 use borrow.Author.Needs.{needs}
 use Rattle.responder_row.proofs.row.Row.ignore.Statement.{statement}
 use Rattle.responder_row.proofs.row.Row.ignore.Tie as tie

@@ -1,5 +1,4 @@
 -- `Row::refuse` meets its contract. The search would find it unasked; the file makes a wrong `refuse` fail here, at the fact.
--- Assumes nothing.
 use borrow.Author.Needs.{needs}
 use Rattle.responder_row.proofs.row.Row.refuse.Statement.{statement}
 use Rattle.responder_row.proofs.row.Row.refuse.Tie as tie

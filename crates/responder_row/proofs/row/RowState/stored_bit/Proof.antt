@@ -1,5 +1,4 @@
 -- `stored_bit` meets its contract: each arm is a clause of `storedBit`.
--- Assumes nothing.
 use borrow.Author.Needs.{needs}
 use Rattle.responder_row.proofs.row.RowState.stored_bit.Statement.{statement}
 use Rattle.responder_row.proofs.row.RowState.stored_bit.Tie as tie

@@ -1,5 +1,4 @@
 -- `Stage::answer` meets its contract: the responder's promise, and the stage around it.
--- Assumes nothing.
 use mathlib.Core.Path.{ap, _∙_}
 use Rattle.stage.specs.Stages.{afterResponder}
 use borrow.Author.Needs.{needs}

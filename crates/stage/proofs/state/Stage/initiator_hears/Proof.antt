@@ -1,5 +1,4 @@
 -- `Stage::initiator_hears` meets its contract: the initiator's promise of the telegram on the line, and the stage around it.
--- Assumes nothing.
 use Rattle.stage.proofs.StepLaws.{ended-by}
 use borrow.Author.Needs.{needs}
 use Rattle.stage.proofs.state.Stage.initiator_hears.Statement.{statement}

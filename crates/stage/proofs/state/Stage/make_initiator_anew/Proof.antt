@@ -1,5 +1,4 @@
 -- `Stage::make_initiator_anew` meets its contract: a new initiator.
--- Assumes nothing.
 use mathlib.Core.Path.{_∙_}
 use borrow.Author.Needs.{needs}
 use Rattle.stage.proofs.state.Stage.make_initiator_anew.Statement.{statement}

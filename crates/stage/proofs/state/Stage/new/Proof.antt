@@ -1,5 +1,4 @@
 -- `Stage::new` meets its contract: both ends are made.
--- Assumes nothing.
 use borrow.Author.Needs.{needs}
 use Rattle.stage.proofs.state.Stage.new.Statement.{statement}
 use Rattle.stage.proofs.state.Stage.new.Tie as tie

@@ -1,5 +1,4 @@
 -- `Stage::report_silence` meets its contract: the initiator's promise, and the stage around it.
--- Assumes nothing.
 use Rattle.stage.proofs.StepLaws.{ended-by}
 use borrow.Author.Needs.{needs}
 use Rattle.stage.proofs.state.Stage.report_silence.Statement.{statement}

@@ -1,5 +1,4 @@
 -- `Stage::restart_responder` meets its contract: the responder's own restart.
--- Assumes nothing.
 use mathlib.Core.Path.{_∙_}
 use borrow.Author.Needs.{needs}
 use Rattle.stage.proofs.state.Stage.restart_responder.Statement.{statement}

@@ -1,5 +1,4 @@
 -- `Stage::submit` meets its contract: the initiator's promise, and the stage around it.
--- Assumes nothing.
 use Rattle.stage.proofs.StepLaws.{submitted-by}
 use borrow.Author.Needs.{needs}
 use Rattle.stage.proofs.state.Stage.submit.Statement.{statement}

@@ -1,5 +1,4 @@
 -- `DataTelegram::is_fdl_status_request` meets its contract: its test is that of `askedBy`, on the request's number.
--- Assumes nothing.
 use borrow.Author.Needs.{needs}
 use borrow.Author.Tests.{eq-eqb, ne-eqb}
 use Rattle.codes.specs.RequestTypes.{requestNumber}

@@ -1,5 +1,4 @@
 -- `DataTelegram::is_response` meets its contract: each arm names the variant that it is for.
--- Assumes nothing.
 use borrow.Author.Needs.{needs}
 use Rattle.telegram.proofs.kinds.DataTelegram.is_response.Statement.{statement}
 use Rattle.telegram.proofs.kinds.DataTelegram.is_response.Tie as tie

@@ -1,5 +1,4 @@
 -- `Telegram::deserialize` meets its contract: the first byte decides, and each arm is a case of it.
--- Assumes nothing.
 use borrow.Author.Needs.{needs}
 use Rattle.telegram.proofs.Answers.{nothing-read, confirmation-read, token-start, data-start, unknown-read}
 use Rattle.telegram.proofs.kinds.Telegram.deserialize.Statement.{statement}

@@ -1,5 +1,4 @@
 -- `Telegram::destination_address` meets its contract: each arm names the variant that it is for.
--- Assumes nothing.
 use borrow.Author.Needs.{needs}
 use Rattle.telegram.proofs.kinds.Telegram.destination_address.Statement.{statement}
 use Rattle.telegram.proofs.kinds.Telegram.destination_address.Tie as tie

@@ -1,5 +1,4 @@
 -- `Telegram::source_address` meets its contract: each arm names the variant that it is for.
--- Assumes nothing.
 use borrow.Author.Needs.{needs}
 use Rattle.telegram.proofs.kinds.Telegram.source_address.Statement.{statement}
 use Rattle.telegram.proofs.kinds.Telegram.source_address.Tie as tie

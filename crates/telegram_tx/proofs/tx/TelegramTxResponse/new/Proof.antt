@@ -1,5 +1,4 @@
 -- `TelegramTxResponse::new` meets its contract. The search would find it unasked; the file makes a wrong `new` fail here, at the fact.
--- Assumes nothing.
 use mathlib.Core.Path.{refl}
 use Rattle.telegram_tx.proofs.tx.TelegramTxResponse.new.Statement.{statement}
 use Rattle.telegram_tx.proofs.tx.TelegramTxResponse.new.Tie as tie

@@ -1,5 +1,4 @@
 -- `last_active_to` meets its contract: up to an address is below the one after it.
--- Assumes nothing.
 use native.Mathlib.Numerals.{add-one}
 use borrow.Author.Needs.{needs}
 use Rattle.token_ring.proofs.ring.TokenRing.last_active_to.Statement.{statement}

@@ -1,5 +1,4 @@
 -- `new` meets its contract: its test is the definition's, and the list is what `fresh_ring` ensures.
--- Assumes nothing.
 use mathlib.Core.Path.{sym, _∙_}
 use Prim.Native.Nat.{_≤_, _<_}
 use native.Mathlib.Omega.{arith}
@@ -8,15 +7,15 @@ use Rattle.token_ring.proofs.RuleLaws.{answers-11, answers-done, made-f
 use Rattle.token_ring.proofs.ring.TokenRing.new.Statement.{statement}
 use Rattle.token_ring.proofs.ring.TokenRing.new.Tie as tie
 
-returns : tie.Need-returns
-returns c =
+refused : tie.Need-returns
+refused c =
     let above : 125 < c .before .before .args .own .0 = omega arith in
     record { answer = sym (answers-11 _ above); ring = c .fresh-ring .ensures ∙ sym (made-refused _ above) }
 
-returns-2 : tie.Need-returns-2
-returns-2 c =
+done : tie.Need-returns-2
+done c =
     let station : c .before .before .args .own .0 ≤ 125 = omega arith in
     record { answer = sym (answers-done _ station); ring = c .fresh-ring2 .ensures ∙ sym (made-fresh _ station) }
 
 pub new-spec : {M : Type 1} → statement M
-new-spec = tie.close (tie.spec (λ c κs. search needs) returns (λ c κs. search needs) returns-2)
+new-spec = tie.close (tie.spec (λ c κs. search needs) refused (λ c κs. search needs) done)

@@ -1,5 +1,4 @@
 -- `set_next_station` meets its contract: its test is the definition's, and the list is what the calls ensure.
--- Assumes nothing.
 use mathlib.Core.Path.{sym, _∙_}
 use Prim.Native.Nat.{_≤_, _<_}
 use native.Mathlib.Omega.{arith}
@@ -9,14 +8,14 @@ use Rattle.token_ring.proofs.RuleLaws.{answers-11, answers-done, set-do
 use Rattle.token_ring.proofs.ring.TokenRing.set_next_station.Statement.{statement}
 use Rattle.token_ring.proofs.ring.TokenRing.set_next_station.Tie as tie
 
-returns : tie.Need-returns
-returns c =
+refused : tie.Need-returns
+refused c =
     let above : 125 < c .before .args .address .0 = omega arith in
     record { answer = sym (answers-11 _ above); ring = sym (set-refused _ _ above) }
 
-returns-2 : tie.Need-returns-2
+done : tie.Need-returns-2
 unfolding updated withFlags
-returns-2 c =
+done c =
     let left = c .before .before .before in
     let station : left .before .args .address .0 ≤ 125 = omega (arith, left .if1 .left) in
     record {
@@ -25,4 +24,4 @@ returns-2 c =
     }
 
 pub set-next-station-spec : {M : Type 1} → statement M
-set-next-station-spec = tie.close (tie.spec returns (λ c. search needs) (λ c κs. search needs) (λ c κs. search needs) returns-2)
+set-next-station-spec = tie.close (tie.spec refused (λ c. search needs) (λ c κs. search needs) (λ c κs. search needs) done)

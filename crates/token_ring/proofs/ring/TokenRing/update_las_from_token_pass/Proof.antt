@@ -1,5 +1,4 @@
 -- `update_las_from_token_pass` meets its contract: the flags are those after the pass, and the neighbours are found among them.
--- Assumes nothing.
 use mathlib.Core.Path.{_∙_}
 use borrow.Author.Needs.{needs}
 use Rattle.token_ring.specs.Rules.{updated, withFlags}

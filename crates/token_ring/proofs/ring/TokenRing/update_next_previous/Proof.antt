@@ -1,5 +1,4 @@
 -- `update_next_previous` meets its contract: the neighbours are those of the flags.
--- Assumes nothing.
 use borrow.Author.Needs.{needs}
 use Rattle.token_ring.specs.Rules.{withFlags}
 use Rattle.token_ring.proofs.ring.TokenRing.update_next_previous.Statement.{statement}

@@ -1,5 +1,4 @@
 -- `with_state` meets its contract: the record is written out, field by field.
--- Assumes nothing.
 use mathlib.Core.Path.{refl}
 use Rattle.token_ring.specs.Rules.{inPhase}
 use Rattle.token_ring.proofs.ring.TokenRing.with_state.Statement.{statement}

@@ -1,21 +1,20 @@
 -- `witness_token_pass` meets its contract: what `hear` ensures is the effect of the pass, and the neighbours are found where it updates.
--- Assumes nothing.
 use mathlib.Core.Logic.{inl, inr, ⊎-elim}
 use mathlib.Core.Path.{_≡_, sym, ap, _∙_}
 use Prim.Native.Nat.{_≤_}
 use native.Mathlib.Omega.{arith}
 use borrow.Author.Needs.{needs}
 use lib.ListN.{length}
-use Rattle.codes.specs.declared.address.Address.{Address}
+use Rattle.ground.specs.declared.address.Address.{Address}
 use Rattle.token_ring.proofs.RuleLaws.{witnessed-ignored, witnessed-effect, length-heard, effected-updated, effected-same}
 use Rattle.token_ring.proofs.ring.TokenRing.witness_token_pass.Statement.{statement}
 use Rattle.token_ring.proofs.ring.TokenRing.witness_token_pass.Tie as tie
 
-returns : tie.Need-returns
-returns c = sym (witnessed-ignored _ _ _ (inl (omega arith)))
+no-source : tie.Need-returns
+no-source c = sym (witnessed-ignored _ _ _ (inl (omega arith)))
 
-returns-2 : tie.Need-returns-2
-returns-2 c = sym (witnessed-ignored _ _ _ (inr (omega arith)))
+no-destination : tie.Need-returns-2
+no-destination c = sym (witnessed-ignored _ _ _ (inr (omega arith)))
 
 -- the flags are as many as they were
 still : (c : tie.After-hear) → length (c .hear .last .0) ≡ 128
@@ -29,8 +28,8 @@ next-of-requires c κs = still (c .before .before .before .before .before)
 previous-of-requires : tie.Need-previous-of-requires
 previous-of-requires c κs = still (c .before .before .before .before .before .before .before .before)
 
-returns-3 : tie.Need-returns-3
-returns-3 c =
+heard : tie.Need-returns-3
+heard c =
     let j = c .before .before in
     let h = j .before .before .before in
     let s = h .before .before .before .before in
@@ -48,11 +47,11 @@ pub witness-token-pass-spec : {M : Type 1} → statement M
 witness-token-pass-spec =
     tie.close
     (tie.spec
-    returns
-    returns-2
+    no-source
+    no-destination
     (λ c. search needs)
     (λ c. search needs)
     (λ c κs. search needs)
     next-of-requires
     previous-of-requires
-    returns-3)
+    heard)

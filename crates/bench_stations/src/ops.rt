@@ -1,0 +1,86 @@
+// The words behind OWN: ops, each of which is one call of a station list.
+use line_text::words::Input;
+use line_text::words::NOWHERE;
+use line_text::words::behind;
+use line_text::words::byte_behind;
+use line_text::words::byte_word;
+use line_text::words::ended;
+use line_text::words::is_end;
+
+pub(crate) enum Op {
+    Witness(u8, u8),
+    Claim,
+    SetNext(u8),
+    Remove(u8),
+}
+
+// An op, with the place behind it.
+pub(crate) struct OpWord {
+    pub(crate) op: Op,
+    pub(crate) next: usize,
+}
+
+// SA and DA, each behind a colon.
+fn get_witness(input: &Input, at: usize) -> OpWord {
+    let sa = byte_behind(input, at, b':');
+    let da = byte_word(input, sa.next, b':');
+    OpWord {
+        op: Op::Witness(sa.value, da.value),
+        next: da.next,
+    }
+}
+
+fn get_set_next(input: &Input, at: usize) -> OpWord {
+    let address = byte_word(input, at, b':');
+    OpWord {
+        op: Op::SetNext(address.value),
+        next: address.next,
+    }
+}
+
+fn get_remove(input: &Input, at: usize) -> OpWord {
+    let address = byte_word(input, at, b':');
+    OpWord {
+        op: Op::Remove(address.value),
+        next: address.next,
+    }
+}
+
+fn get_claim(input: &Input, at: usize) -> OpWord {
+    let end = behind(input, at, b'c');
+    OpWord {
+        op: Op::Claim,
+        next: ended(input, end),
+    }
+}
+
+pub(crate) fn get_op(input: &Input, at: usize) -> OpWord {
+    let letter = behind(input, at, b' ');
+    let witness = behind(input, letter, b'w');
+    if witness < NOWHERE {
+        return get_witness(input, witness);
+    }
+    let set_next = behind(input, letter, b's');
+    if set_next < NOWHERE {
+        return get_set_next(input, set_next);
+    }
+    let remove = behind(input, letter, b'r');
+    if remove < NOWHERE {
+        return get_remove(input, remove);
+    }
+    get_claim(input, letter)
+}
+
+// Whether all that is left of the line is ops. It is asked first, so that a bad line is answered by `error` alone. An op always ends behind
+// its start, and none at `NOWHERE`; the test of it, here and in `put_ops`, is what shows that the loop ends.
+pub(crate) fn are_ops(input: &Input, from: usize) -> bool {
+    let mut at = from;
+    while !is_end(input, at) {
+        let word = get_op(input, at);
+        if word.next <= at {
+            return false;
+        }
+        at = word.next;
+    }
+    true
+}

@@ -1,4 +1,0 @@
-mod ByteLaws
-mod CallLaws
-pub mod InitiatorLossless
-pub mod ResponderLossless

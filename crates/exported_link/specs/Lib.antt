@@ -1,6 +1,0 @@
-pub mod Bytes
-pub mod Calls
-pub mod InitiatorBytes
-pub mod InitiatorCalls
-pub mod ResponderBytes
-pub mod ResponderCalls

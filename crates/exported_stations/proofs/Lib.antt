@@ -1,4 +1,0 @@
-mod MapLaws
-mod StoreLaws
-mod CallLaws
-pub mod Lossless

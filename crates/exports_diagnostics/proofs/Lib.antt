@@ -1,0 +1,4 @@
+-- no second outcome fits the promise of any public call
+pub mod Determined
+-- a step, told
+mod CallLaws

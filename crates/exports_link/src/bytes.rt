@@ -1,0 +1,65 @@
+// What the two ends have in common.
+ghost use mathlib.Core.Path.{_≡_};
+ghost use mathlib.Core.List.{_++_};
+ghost use Prim.Native.Nat.{_+_};
+ghost use lib.ListN.{drop, length};
+ghost use Rattle.exports_link.specs.Bytes.{byBit, lengthByte};
+ghost use Rattle.link_rules.specs.Rules.{linkOf};
+ghost use Rattle.exports_link.specs.Calls.{isRefusal};
+use ground::Address;
+use ground::copy_to_front;
+use link_rules::Link;
+use link_telegrams::Bit;
+
+pub(crate) fn is_refusal(code: u8) -> bool
+    ensures { λ r. ⌜ r ≡ isRefusal code ⌝ }
+{
+    if 0 < code { code < 100 } else { false }
+}
+
+pub(crate) fn link_of(own: u8, peer: u8) -> Link
+    ensures { λ r. ⌜ r ≡ linkOf own peer ⌝ }
+{
+    Link {
+        own: Address(own),
+        peer: Address(peer),
+    }
+}
+
+pub(crate) fn by_bit(bit: Bit, low: u8, high: u8) -> u8
+    ensures { λ r. ⌜ r ≡ byBit bit low high ⌝ }
+{
+    match bit {
+        Bit::Low => low,
+        Bit::High => high,
+    }
+}
+
+pub(crate) fn length_byte(len: usize) -> u8
+    ensures { λ r. ⌜ r ≡ lengthByte len ⌝ }
+{
+    if len < 256 {
+        return len as u8;
+    }
+    255
+}
+
+// The last 246 bytes: the order or the reply.
+pub(crate) fn tail(bytes: &[u8], from: usize) -> [u8; 246]
+    requires { ⌜ from + 246 ≡ length (now bytes) ⌝ }
+    ensures { λ r. ⌜ r ≡ drop from (now (bytes .entry)) ⌝ }
+{
+    let mut last = [0u8; 246];
+    copy_to_front(&bytes[from..], &mut last);
+    last
+}
+
+// Fills the bytes of a record: nothing else of it is copied.
+pub(crate) fn store(head: &[u8], last: &[u8], state: &mut [u8])
+    requires { ⌜ length (now head) + length (now last) ≡ length (now state) ⌝ }
+    ensures { λ _. ⌜ now (state .exit) ≡ now (head .entry) ++ now (last .entry) ⌝ }
+{
+    let n = head.len();
+    copy_to_front(head, state);
+    copy_to_front(last, &mut state[n..]);
+}

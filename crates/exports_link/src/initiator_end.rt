@@ -1,0 +1,196 @@
+// The initiator for programs in other languages. Promises: `specs/InitiatorCalls.antt`.
+ghost use mathlib.Core.Path.{_≡_};
+ghost use mathlib.Core.List.{List, [], _∷_};
+ghost use Prim.Native.Nat.{ℕ};
+ghost use lib.ListN.{length};
+ghost use Rattle.initiator.specs.Calls.{shownSaid, shownTurn};
+ghost use Rattle.exports_link.specs.Calls.{codeOf, toldOf, crossed};
+ghost use Rattle.exports_link.specs.InitiatorBytes.{phaseNumber, phaseOf, initiatorOf, initiatorBytes};
+ghost use Rattle.exports_link.specs.InitiatorCalls.{outcomeCode, outcomeNumbers, initiatorCrosses, koyInitiatorNew, koyInitiatorSubmit, koyInitiatorSilence, koyInitiatorHear, koyInitiatorRestart};
+use crate::bytes::by_bit;
+use crate::bytes::is_refusal;
+use crate::bytes::length_byte;
+use crate::bytes::link_of;
+use crate::bytes::store;
+use crate::bytes::tail;
+use initiator::Initiator;
+use initiator::InitiatorAnswer;
+use initiator::InitiatorTurn;
+use initiator::Phase;
+use link_telegrams::Bit;
+
+fn phase_number(phase: Phase) -> u8
+    ensures { λ r. ⌜ r ≡ phaseNumber phase ⌝ }
+{
+    match phase {
+        Phase::Closed => 0,
+        Phase::Ready(bit) => by_bit(bit, 1, 2),
+        Phase::Opening(_) => 3,
+        Phase::Order(bit, _) => by_bit(bit, 4, 5),
+    }
+}
+
+fn phase_of(number: u8, used: u8) -> Phase
+    ensures { λ r. ⌜ r ≡ phaseOf number used ⌝ }
+{
+    match number {
+        1 => Phase::Ready(Bit::Low),
+        2 => Phase::Ready(Bit::High),
+        3 => Phase::Opening(used),
+        4 => Phase::Order(Bit::Low, used),
+        5 => Phase::Order(Bit::High, used),
+        _ => Phase::Closed,
+    }
+}
+
+fn unpack(bytes: [u8; 252]) -> Initiator
+    ensures { λ r. ⌜ (r ≡ initiatorOf bytes) × (length bytes ≡ 252) ⌝ }
+{
+    let link = link_of(bytes[0], bytes[1]);
+    let phase = phase_of(bytes[3], bytes[4]);
+    let order = tail(&bytes, 6);
+    Initiator::from_parts(link, bytes[2], phase, order, bytes[5] as usize)
+}
+
+fn pack(initiator: Initiator, state: &mut [u8; 252])
+    requires { ⌜ length (now state) ≡ 252 ⌝ }
+    ensures { λ _. ⌜ now (state .exit) ≡ initiatorBytes initiator ⌝ }
+{
+    let own = initiator.own();
+    let peer = initiator.peer();
+    let phase = initiator.phase();
+    let number = phase_number(phase);
+    let used = phase.tries_used();
+    let len = length_byte(initiator.order_len());
+    let head = [own.0, peer.0, initiator.tries(), number, used, len];
+    let order = initiator.order();
+    store(&head, &order, state);
+}
+
+fn code_of(answer: InitiatorAnswer) -> u8
+    ensures { λ r. ⌜ r ≡ codeOf outcomeCode (shownSaid answer) ⌝ }
+{
+    match answer {
+        InitiatorAnswer::Sent(_) => 102,
+        InitiatorAnswer::Confirmed(_, _) => 103,
+        InitiatorAnswer::NotSent(_) => 104,
+        InitiatorAnswer::Unknown(_) => 105,
+        InitiatorAnswer::Nothing => 0,
+        InitiatorAnswer::Refused(refusal) => refusal.number(),
+    }
+}
+
+fn told_of(answer: InitiatorAnswer) -> [usize; 3]
+    ensures { λ r. ⌜ r ≡ toldOf outcomeNumbers (0 ∷ 0 ∷ []) (shownSaid answer) ⌝ }
+{
+    match answer {
+        InitiatorAnswer::Sent(n) => [n, 0, 0],
+        InitiatorAnswer::Confirmed(reply, tries) => [reply.start, reply.len, tries as usize],
+        InitiatorAnswer::NotSent(tries) => [0, 0, tries as usize],
+        InitiatorAnswer::Unknown(tries) => [0, 0, tries as usize],
+        InitiatorAnswer::Nothing => [0, 0, 0],
+        InitiatorAnswer::Refused(_) => [0, 0, 0],
+    }
+}
+
+// A refused call left the record as it came, so its bytes are not touched.
+fn finish(turn: InitiatorTurn, state: &mut [u8; 252], told: &mut [usize; 3]) -> u8
+    requires { ⌜ length (now state) ≡ 252 ⌝ }
+    ensures { λ r. ⌜ ((buf : List ℕ) → record { code = r; told = now (told .exit); state = now (state .exit); buffer = buf } ≡ crossed initiatorCrosses (now (state .entry)) (now (told .entry)) (shownTurn turn buf)) ⌝ }
+{
+    let answer = turn.answer;
+    let code = code_of(answer);
+    if is_refusal(code) {
+        return code;
+    }
+    *told = told_of(answer);
+    let next = turn.initiator;
+    pack(next, state);
+    code
+}
+
+fn made(own: u8, peer: u8, tries: u8, state: &mut [u8; 252]) -> u8
+    requires { ⌜ length (now state) ≡ 252 ⌝ }
+    ensures { λ r. ⌜ record { code = r; state = now (state .exit) } ≡ koyInitiatorNew (now (state .entry)) own peer tries ⌝ }
+{
+    let made = Initiator::new(link_of(own, peer), tries);
+    let answer = made.answer;
+    let initiator = made.initiator;
+    let code = answer.number();
+    if is_refusal(code) {
+        return code;
+    }
+    pack(initiator, state);
+    code
+}
+
+// Nothing of the old bytes is read but their number, which the array's type gives.
+fn size(bytes: [u8; 252]) -> usize
+    ensures { λ r. ⌜ (r ≡ 252) × (length bytes ≡ 252) ⌝ }
+{
+    252
+}
+
+// Refusals 18 and 19, in this order.
+#[no_mangle]
+pub extern "C" fn koy_initiator_new(state: &mut [u8; 252], own: u8, peer: u8, tries: u8) -> u8
+    ensures { λ r. ⌜ record { code = r; state = now (state .exit) } ≡ koyInitiatorNew (now (state .entry)) own peer tries ⌝ }
+{
+    let bytes = *state;
+    size(bytes);
+    made(own, peer, tries, state)
+}
+
+#[no_mangle]
+pub extern "C" fn koy_initiator_submit(
+    state: &mut [u8; 252],
+    order: &[u8],
+    buf: &mut [u8],
+    told: &mut [usize; 3],
+) -> u8
+    ensures { λ r. ⌜ record { code = r; told = now (told .exit); state = now (state .exit); buffer = now (buf .exit) } ≡ koyInitiatorSubmit (now (state .entry)) (now (order .entry)) (now (buf .entry)) (now (told .entry)) ⌝ }
+{
+    let bytes = *state;
+    let initiator = unpack(bytes);
+    let turn = initiator.submit(order, buf);
+    finish(turn, state, told)
+}
+
+#[no_mangle]
+pub extern "C" fn koy_initiator_silence(
+    state: &mut [u8; 252],
+    buf: &mut [u8],
+    told: &mut [usize; 3],
+) -> u8
+    ensures { λ r. ⌜ record { code = r; told = now (told .exit); state = now (state .exit); buffer = now (buf .exit) } ≡ koyInitiatorSilence (now (state .entry)) (now (buf .entry)) (now (told .entry)) ⌝ }
+{
+    let bytes = *state;
+    let initiator = unpack(bytes);
+    let turn = initiator.silence(buf);
+    finish(turn, state, told)
+}
+
+#[no_mangle]
+pub extern "C" fn koy_initiator_hear(
+    state: &mut [u8; 252],
+    heard: &[u8],
+    buf: &mut [u8],
+    told: &mut [usize; 3],
+) -> u8
+    ensures { λ r. ⌜ record { code = r; told = now (told .exit); state = now (state .exit); buffer = now (buf .exit) } ≡ koyInitiatorHear (now (state .entry)) (now (heard .entry)) (now (buf .entry)) (now (told .entry)) ⌝ }
+{
+    let bytes = *state;
+    let initiator = unpack(bytes);
+    let turn = initiator.hear(heard, buf);
+    finish(turn, state, told)
+}
+
+#[no_mangle]
+pub extern "C" fn koy_initiator_restart(state: &mut [u8; 252], told: &mut [usize; 3]) -> u8
+    ensures { λ r. ⌜ record { code = r; told = now (told .exit); state = now (state .exit); buffer = [] } ≡ koyInitiatorRestart (now (state .entry)) (now (told .entry)) ⌝ }
+{
+    let bytes = *state;
+    let initiator = unpack(bytes);
+    let turn = initiator.restart();
+    finish(turn, state, told)
+}

@@ -1,0 +1,2 @@
+-- Read `koySettingsRead` and `koySettingsWrite`: each is the promise of the call so named.
+pub mod Calls

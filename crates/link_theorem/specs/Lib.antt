@@ -1,0 +1,2 @@
+-- the pair of ends that the calls make
+pub mod OrderLink

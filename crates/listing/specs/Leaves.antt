@@ -1,0 +1,41 @@
+-- What private functions promise each other. Nothing here has to be believed: no promise of a public call cites it.
+use mathlib.Core.List.{List}
+use Prim.Native.Nat.{ℕ}
+use lib.Dec.{eqb}
+use lib.ListN.{length, drop}
+use Rattle.ground.specs.Pick.{if}
+use Rattle.telegram.specs.Reading.{Reading, whole, incomplete, refused, readOf}
+use Rattle.telegram.specs.Stream.{Ending, streamAt}
+use Rattle.telegram.specs.Stream as ending
+use Rattle.listing.specs.declared.line.End.{End}
+use Rattle.listing.specs.declared.line.End.the-variants.{Done, Incomplete, Refused}
+use Rattle.listing.specs.declared.line.Item.{Item}
+use Rattle.listing.specs.declared.line.Item.the-variants.{Telegram, Last}
+use Rattle.listing.specs.Lines.{lineOf, endOf}
+use Rattle.listing.specs.Listing.{streamText}
+use Rattle.listing.specs.Telegrams.{lineAt}
+
+-- an end of the code, as the stream's
+abbrev pub shownEnd : End → Ending
+shownEnd Done = ending.done
+shownEnd Incomplete = ending.incomplete
+shownEnd (Refused number) = ending.refused number
+
+-- the line of an item
+abbrev pub itemText : Item → List ℕ
+itemText (Telegram line) = lineOf line
+itemText (Last end at) = endOf (shownEnd end) at
+
+-- the item at a place, by what the reader answers there
+abbrev pub itemRead : ℕ → List ℕ → Reading → Item
+itemRead at s (whole t n) = Telegram (lineAt at s t n)
+itemRead at s incomplete = Last Incomplete at
+itemRead at s (refused number) = Last (Refused number) at
+
+-- the item at a place, where s is the input from there on
+unfoldable pub itemOf : ℕ → List ℕ → Item
+itemOf at s = if (eqb (length s) 0) (Last Done at) (itemRead at s (readOf s))
+
+-- the lines from a place of the input on
+abbrev pub linesAt : List ℕ → ℕ → List ℕ
+linesAt input at = streamText input (streamAt at (drop at input))

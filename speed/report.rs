@@ -1,6 +1,8 @@
 //! Puts what was measured into lines.
 //!
 //! `report cases COUNTS TIMES STACKS`: callgrind's dumps, and what `driver time` and `driver stack` printed.
+//! `report pairs COUNTS TIMES STACKS`: the same of the cases that the original has too.
+//! `report stacks STACKS`: the most that each call of ours took in any case.
 //! `report sizes SYMBOLS SLOTS CODE`: what nm, readelf -r and objdump say of the driver.
 
 use std::collections::{BTreeMap, BTreeSet};
@@ -14,7 +16,9 @@ fn main() -> ExitCode {
     let words: Vec<String> = std::env::args().skip(1).collect();
     let text = |index: usize| read_to_string(&words[index]).unwrap_or_else(|error| panic!("{}: {error}", words[index]));
     match words[0].as_str() {
-        "cases" => cases(&text(1), &measured(&text(2)), &measured(&text(3))),
+        "cases" => cases(&text(1), &measured(&text(2)), &measured(&text(3)), false),
+        "pairs" => cases(&text(1), &measured(&text(2)), &measured(&text(3)), true),
+        "stacks" => stacks(&text(1)),
         _ => sizes(&text(1), &text(2), &text(3)),
     }
 }
@@ -60,8 +64,11 @@ fn measured(lines: &str) -> Figures {
     lines.lines().map(figure).collect()
 }
 
-fn cases(dumps: &str, times: &Figures, stacks: &Figures) -> ExitCode {
-    let (order, counts) = counted(dumps);
+fn cases(dumps: &str, times: &Figures, stacks: &Figures, pairs_only: bool) -> ExitCode {
+    let (mut order, counts) = counted(dumps);
+    if pairs_only {
+        order.retain(|case| counts.contains_key(&(case.clone(), "rust".to_string())));
+    }
     let mut short = Vec::new();
     for case in &order {
         let key = |side: &str| (case.clone(), side.to_string());
@@ -76,19 +83,21 @@ fn cases(dumps: &str, times: &Figures, stacks: &Figures) -> ExitCode {
                 of(stacks, "ours"),
                 of(stacks, "rust")
             );
-            println!("case={case} ours={ours:.1} rust={rust:.1} ratio={:.2} {more}", rust / ours);
+            let kept = match times.contains_key(&key("ours-kept")) {
+                true => format!(" kept={}/{}", of(times, "ours-kept"), of(times, "rust-kept")),
+                false => String::new(),
+            };
+            println!("case={case} ours={ours:.1} rust={rust:.1} ratio={:.2} {more}{kept}", rust / ours);
             if rust < ours {
                 short.push(case);
             }
         } else if let (Some(link), Some(telegrams)) = (counts.get(&key("link")), counts.get(&key("telegrams"))) {
-            println!(
-                "case={case} link={link:.0} telegrams={telegrams:.0} times={:.2} stack={}",
-                link / telegrams,
-                of(stacks, "link")
-            );
+            println!("case={case} link={link:.0} telegrams={telegrams:.0} times={:.2}", link / telegrams);
             if *link > 3.0 * telegrams {
                 short.push(case);
             }
+        } else if let Some(ours) = counts.get(&key("ours")) {
+            println!("case={case} ours={ours:.0} ns={} stack={}", of(times, "ours"), of(stacks, "ours"));
         }
     }
     if short.is_empty() {
@@ -97,6 +106,24 @@ fn cases(dumps: &str, times: &Figures, stacks: &Figures) -> ExitCode {
     }
     println!("all={} short={}: {short:?}", order.len(), short.len());
     ExitCode::from(1)
+}
+
+/// The most stack that each call of ours took, over all cases that make it.
+fn stacks(lines: &str) -> ExitCode {
+    let mut most: BTreeMap<&str, u64> = BTreeMap::new();
+    for line in lines.lines() {
+        let words: Vec<&str> = line.split_whitespace().collect();
+        if let [_, _, _, bytes, call] = words[..] {
+            if call != "-" {
+                let bytes = bytes.parse().unwrap();
+                most.entry(call).and_modify(|known| *known = (*known).max(bytes)).or_insert(bytes);
+            }
+        }
+    }
+    for (call, bytes) in &most {
+        println!("stack={call} bytes={bytes}");
+    }
+    ExitCode::SUCCESS
 }
 
 /// The functions of the driver: each one's text bytes by its name, and its name by its address.

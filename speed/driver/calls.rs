@@ -10,6 +10,7 @@ use original::Address;
 pub const ABSENT: usize = 256;
 pub const INCOMPLETE: u8 = 100;
 pub const AT_END: u8 = 101;
+pub const SENT: u8 = 102;
 pub const CONFIRMED: u8 = 103;
 pub const HANDED_UP: u8 = 106;
 
@@ -35,15 +36,36 @@ extern "C" {
     pub fn koy_write_confirmation(buf: *mut u8, buf_len: usize) -> u8;
     pub fn koy_stations_new(state: &mut Stations, own: u8) -> u8;
     pub fn koy_stations_witness(state: &mut Stations, sa: u8, da: u8);
+    pub fn koy_stations_claim(state: &mut Stations);
     pub fn koy_stations_set_next(state: &mut Stations, address: u8) -> u8;
     pub fn koy_stations_remove(state: &mut Stations, address: u8) -> u8;
     pub fn koy_stations_about(state: &Stations, told: &mut [usize; 4]);
+    pub fn koy_stations_is_active(state: &Stations, address: u8) -> bool;
+    pub fn koy_stations_first_from(state: &Stations, address: u8) -> usize;
+    pub fn koy_stations_last_to(state: &Stations, address: u8) -> usize;
     pub fn koy_diagnostics_step(
         store: *const u8,
         store_len: usize,
         walked: usize,
         cursor: &mut [usize; 1],
         told: &mut [usize; 9],
+    ) -> u8;
+    pub fn koy_diagnostics_fill(
+        store: *mut u8,
+        store_len: usize,
+        walked: &mut [usize; 1],
+        bytes: *const u8,
+        bytes_len: usize,
+    ) -> bool;
+    pub fn koy_diagnostics_module(body: *const u8, body_len: usize, module: usize) -> bool;
+    pub fn koy_settings_read(text: *const u8, text_len: usize, told: &mut [usize; 3]) -> u8;
+    pub fn koy_settings_write(
+        own: u8,
+        peer: u8,
+        tries: u8,
+        buf: *mut u8,
+        buf_len: usize,
+        told: &mut [usize; 1],
     ) -> u8;
     pub fn koy_initiator_new(state: &mut Initiator, own: u8, peer: u8, tries: u8) -> u8;
     pub fn koy_initiator_submit(
@@ -54,6 +76,8 @@ extern "C" {
         buf_len: usize,
         told: &mut [usize; 3],
     ) -> u8;
+    pub fn koy_initiator_silence(state: &mut Initiator, buf: *mut u8, buf_len: usize, told: &mut [usize; 3]) -> u8;
+    pub fn koy_initiator_restart(state: &mut Initiator, told: &mut [usize; 3]) -> u8;
     pub fn koy_initiator_hear(
         state: &mut Initiator,
         heard: *const u8,
@@ -71,6 +95,7 @@ extern "C" {
         buf_len: usize,
         told: &mut [usize; 2],
     ) -> u8;
+    pub fn koy_responder_restart(state: &mut Responder);
     pub fn koy_responder_answer(
         state: &mut Responder,
         reply: *const u8,
@@ -79,6 +104,39 @@ extern "C" {
         buf_len: usize,
         told: &mut [usize; 2],
     ) -> u8;
+}
+
+/// Every call of the static libraries by its first instruction, so that none is left out where the stack is measured.
+pub fn ours() -> Vec<(*const (), &'static str)> {
+    vec![
+        (koy_read as *const (), "read"),
+        (koy_write_data as *const (), "write_data"),
+        (koy_write_token as *const (), "write_token"),
+        (koy_write_confirmation as *const (), "write_confirmation"),
+        (koy_stations_new as *const (), "stations_new"),
+        (koy_stations_witness as *const (), "stations_witness"),
+        (koy_stations_claim as *const (), "stations_claim"),
+        (koy_stations_set_next as *const (), "stations_set_next"),
+        (koy_stations_remove as *const (), "stations_remove"),
+        (koy_stations_about as *const (), "stations_about"),
+        (koy_stations_is_active as *const (), "stations_is_active"),
+        (koy_stations_first_from as *const (), "stations_first_from"),
+        (koy_stations_last_to as *const (), "stations_last_to"),
+        (koy_diagnostics_step as *const (), "diagnostics_step"),
+        (koy_diagnostics_fill as *const (), "diagnostics_fill"),
+        (koy_diagnostics_module as *const (), "diagnostics_module"),
+        (koy_settings_read as *const (), "settings_read"),
+        (koy_settings_write as *const (), "settings_write"),
+        (koy_initiator_new as *const (), "initiator_new"),
+        (koy_initiator_submit as *const (), "initiator_submit"),
+        (koy_initiator_silence as *const (), "initiator_silence"),
+        (koy_initiator_hear as *const (), "initiator_hear"),
+        (koy_initiator_restart as *const (), "initiator_restart"),
+        (koy_responder_new as *const (), "responder_new"),
+        (koy_responder_hear as *const (), "responder_hear"),
+        (koy_responder_answer as *const (), "responder_answer"),
+        (koy_responder_restart as *const (), "responder_restart"),
+    ]
 }
 
 fn number(byte: Option<u8>) -> usize {

@@ -1,7 +1,7 @@
 //! All cases, and how one of them is measured on both sides.
 
 use crate::measures::{measure, Measure, Side};
-use crate::{orders, stations, telegrams, walks};
+use crate::{link, orders, others, stations, telegrams, walks};
 
 /// Which cases are measured, and how.
 #[derive(Clone, Copy)]
@@ -21,6 +21,14 @@ impl Plan<'_> {
         self.one_side(case, "rust", rust);
     }
 
+    /// The same without a copy of what is lent, for time alone: the runs follow each other on one record.
+    pub fn kept(self, case: &str, ours: Side, rust: Side) {
+        if self.how == Measure::Time {
+            self.one_side(case, "ours-kept", ours);
+            self.one_side(case, "rust-kept", rust);
+        }
+    }
+
     pub fn one_side(self, case: &str, side: &str, with: Side) {
         if self.wants(case) {
             measure(self.how, case, side, with);
@@ -35,4 +43,6 @@ pub fn run(how: Measure, word: &str) {
     stations::list(plan);
     walks::walks(plan);
     orders::orders(plan);
+    link::calls(plan);
+    others::calls(plan);
 }

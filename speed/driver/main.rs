@@ -2,8 +2,10 @@
 
 mod calls;
 mod cases;
+mod link;
 mod measures;
 mod orders;
+mod others;
 mod stations;
 mod telegrams;
 mod walks;

@@ -1,5 +1,6 @@
 //! Three ways to measure a run of calls: instructions (callgrind counts them between two marks), time, and stack.
 
+use crate::calls::ours;
 use std::ffi::CString;
 use std::hint::black_box;
 use std::time::Instant;
@@ -14,6 +15,9 @@ pub enum Measure {
 /// So many times a run is repeated while callgrind counts: the counts of a run are the same each time, and the figure is
 /// their mean.
 pub const COUNTED: u32 = 8;
+
+/// So many times a time is taken: the figure is the least of them.
+pub const TIMED: u32 = 12;
 
 /// One side of a case. `calls` is how many calls of the library a run makes: the figures are for one of them. `entry` is the
 /// call's first instruction, from which the stack is measured.
@@ -37,17 +41,18 @@ pub fn measure(how: Measure, case: &str, side: &str, with: Side) {
             request(DUMP_STATS_AT, name.as_ptr() as u64);
         }
         Measure::Time => {
-            let times = (0..5).map(|_| timed(with.run)).fold(f64::MAX, f64::min);
+            let times = (0..TIMED).map(|_| timed(with.run)).fold(f64::MAX, f64::min);
             println!("time {case} {side} {:.2}", times / f64::from(with.calls));
         }
         Measure::Stack => {
             let deepest = deepest(with.entry, with.run);
-            println!("stack {case} {side} {deepest}");
+            let call = ours().into_iter().find(|call| call.0 == with.entry).map_or("-", |call| call.1);
+            println!("stack {case} {side} {deepest} {call}");
         }
     }
 }
 
-/// Nanoseconds of one run: enough runs for a tenth of a second.
+/// Nanoseconds of one run: enough runs for a fiftieth of a second.
 fn timed(run: &mut dyn FnMut()) -> f64 {
     let mut runs = 1_u32;
     loop {
@@ -56,7 +61,7 @@ fn timed(run: &mut dyn FnMut()) -> f64 {
             run();
         }
         let taken = start.elapsed().as_secs_f64();
-        if taken > 0.1 {
+        if taken > 0.02 {
             return taken * 1e9 / f64::from(runs);
         }
         runs = runs.saturating_mul(2);

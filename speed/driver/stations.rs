@@ -68,6 +68,14 @@ fn passes_case(plan: Plan, case: &str, state: Stations, ring: TokenRing, passes:
         Side { calls, entry: koy_stations_witness as *const (), run: &mut || ours_heard(&mut state.clone(), passes) },
         Side { calls, entry: rust_stations_witness as *const (), run: &mut || rust_heard(&mut ring.clone(), passes) },
     );
+    // A rotation leaves a Valid list as it was, so that the next may follow on it; the passes of a startup do not.
+    if after == state {
+        plan.kept(
+            case,
+            Side { calls, entry: koy_stations_witness as *const (), run: &mut || ours_heard(&mut after, passes) },
+            Side { calls, entry: rust_stations_witness as *const (), run: &mut || rust_heard(&mut rust_after, passes) },
+        );
+    }
 }
 
 /// A call that changes one station of a Valid list.
@@ -99,6 +107,21 @@ fn change_case(
             calls: 1,
             entry: rust as *const (),
             run: &mut || _ = black_box(rust(black_box(&mut ring.clone()), black_box(address))),
+        },
+    );
+    // The same call once more leaves the list as it is, and goes through the same steps.
+    plan.kept(
+        case,
+        // Sound: as above.
+        Side {
+            calls: 1,
+            entry: ours as *const (),
+            run: &mut || _ = black_box(unsafe { ours(black_box(&mut after), black_box(address)) }),
+        },
+        Side {
+            calls: 1,
+            entry: rust as *const (),
+            run: &mut || _ = black_box(rust(black_box(&mut rust_after), black_box(address))),
         },
     );
 }

@@ -77,7 +77,8 @@ pub fn reading(plan: Plan) {
 
 pub fn ours_write(dsap: usize, ssap: usize, pdu: &[u8], buf: &mut [u8], told: &mut [usize; 2]) -> u8 {
     // Sound: pointers and lengths are slices'.
-    unsafe { koy_write_data(5, 2, dsap, ssap, SRD_LOW, pdu.as_ptr(), pdu.len(), buf.as_mut_ptr(), buf.len(), told) }
+    let (da, sa, fc) = (black_box(5), black_box(2), black_box(SRD_LOW));
+    unsafe { koy_write_data(da, sa, dsap, ssap, fc, pdu.as_ptr(), pdu.len(), buf.as_mut_ptr(), buf.len(), told) }
 }
 
 fn write_case(plan: Plan, case: &str, dsap: usize, ssap: usize, pdu: &[u8]) {
@@ -111,8 +112,8 @@ fn write_case(plan: Plan, case: &str, dsap: usize, ssap: usize, pdu: &[u8]) {
             run: &mut || {
                 let (buf, told) = (black_box(&mut rust), black_box(&mut rust_told));
                 let code = rust_write_data(
-                    5,
-                    2,
+                    black_box(5),
+                    black_box(2),
                     black_box(dsap),
                     black_box(ssap),
                     black_box(SRD_LOW),

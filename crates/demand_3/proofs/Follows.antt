@@ -7,7 +7,8 @@ use mathlib.Core.Logic.{_⊎_}
 use mathlib.Core.Option.{Option, none, some, Option·map}
 use mathlib.Core.Path.{_≡_}
 use Rattle.demand_3.specs.Turns.{Bytes, Turn}
-use Rattle.demand_3.specs.Line.{Pair, Permitted}
+use Rattle.demand_3.specs.Line.{Pair}
+use Rattle.link_rules.specs.Rules.{Permitted}
 
 -- what was written, if anything, is of this kind
 abbrev pub Written : {A : Type 0} → (A → Type 0) → Option A → Type 0

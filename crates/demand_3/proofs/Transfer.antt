@@ -8,7 +8,8 @@ use mathlib.Core.Option.{Option, none, some, Option·map}
 use mathlib.Core.Path.{_≡_, refl, sym, _∙_, ap, subst, subst⁻¹}
 use Rattle.demand_3.specs.Turns.{Bytes, Outcome, Told, refused, nothing, tells, Turn}
 use Rattle.demand_3.specs.History.{History, Sent, submitted, counted, reported, leftPending, answered, openingHeard}
-use Rattle.demand_3.specs.Line.{Pair, State, Call, initiatorMade, submits, silent, initiatorHears, initiatorRestarts, responderMade, responderHears, answers, responderRestarts, closedBy, begun, sentAs, sentOf, initiatorDone, responderDone, step, start, run, Heard, inFlight, stray, Permitted, Lawful, Obeys}
+use Rattle.demand_3.specs.Line.{Pair, State, Call, initiatorMade, submits, silent, initiatorHears, initiatorRestarts, responderMade, responderHears, answers, responderRestarts, closedBy, begun, sentAs, sentOf, initiatorDone, responderDone, step, start, run, Heard, inFlight, stray, Lawful, Obeys}
+use Rattle.link_rules.specs.Rules.{Permitted}
 use Rattle.demand_3.specs.Safe.{Safe}
 use Rattle.demand_3.specs.Live.{Accepted, Silent, Flight, theTry, theAnswer, another, answerTo, Missed, Wide, Prompt, answersAtOnce, reachesResponder, reachesInitiator, passes, Between, over, silentShort, submitsBeside, initiatorMisses, responderAttends, responderServes, answersLate, Tried, passed, again, Phase, Phases, opensFirst, orderAtOnce, saysNothing, Live}
 use Rattle.demand_3.specs.Demand.{Demand}

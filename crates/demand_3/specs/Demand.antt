@@ -6,7 +6,8 @@
 -- order pass both ways, the order is confirmed."
 use Prim.Native.Nat.{ℕ}
 use mathlib.Core.List.{List}
-use Rattle.demand_3.specs.Line.{Pair, Call, start, run, Permitted, Obeys}
+use Rattle.demand_3.specs.Line.{Pair, Call, start, run, Obeys}
+use Rattle.link_rules.specs.Rules.{Permitted}
 use Rattle.demand_3.specs.Safe.{Safe}
 use Rattle.demand_3.specs.Live.{Live}
 

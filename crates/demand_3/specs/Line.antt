@@ -1,8 +1,9 @@
 -- Any pair of ends that can be called as document 01 has it; the calls; the line between them; and the runs.
-use Prim.Native.Nat.{ℕ, _≤_}
+use Prim.Native.Nat.{ℕ}
 use mathlib.Core.Bool.{Bool, true, false}
 use mathlib.Core.List.{List, [], _∷_}
 use mathlib.Core.Option.{Option, none, some}
+use Rattle.link_rules.specs.Rules.{Permitted}
 use Rattle.demand_3.specs.Turns.{Bytes, Outcome, confirmed, notSent, unknown, Told, refused, nothing, tells, Turn}
 use Rattle.demand_3.specs.History.{History, noHistory, submitted, Sent, nothingSent, openingSent, orderSent, counted, reported, leftPending, noted, answered, openingHeard}
 
@@ -184,10 +185,6 @@ module _ (P : Pair) where
 pub data Heard {T : Type 0} (Stray : T → Type 0) : Option T → T → Type 0 where
   inFlight : {t : T} → Heard Stray (some t) t
   stray : {l : Option T} {t : T} → Stray t → Heard Stray l t
-
--- "Tries: 1 to 8"
-abbrev pub Permitted : ℕ → Type 0
-Permitted n = (1 ≤ n) × (n ≤ 8)
 
 module _ (P : Pair) where
   -- The line's law, call by call: it "may lose telegrams but neither alters, doubles nor delays them". Every call is

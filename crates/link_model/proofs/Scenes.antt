@@ -10,7 +10,8 @@ use mathlib.Core.Option.{Option, none, some}
 use mathlib.Core.Path.{_≡_, refl, subst⁻¹}
 use Rattle.demand_3.specs.Turns.{Bytes, Told, refused, nothing, tells}
 use Rattle.demand_3.specs.History.{nothingSent, openingSent, orderSent}
-use Rattle.demand_3.specs.Line.{Pair, State, Call, initiatorMade, submits, silent, initiatorHears, initiatorRestarts, responderMade, responderHears, answers, responderRestarts, sentOf, step, start, run, Heard, inFlight, Permitted, Obeys}
+use Rattle.demand_3.specs.Line.{Pair, State, Call, initiatorMade, submits, silent, initiatorHears, initiatorRestarts, responderMade, responderHears, answers, responderRestarts, sentOf, step, start, run, Heard, inFlight, Obeys}
+use Rattle.link_rules.specs.Rules.{Permitted}
 use Rattle.demand_3.specs.Safe.{Safe, entriesOf}
 use Rattle.demand_3.specs.Live.{reportAt, Accepted, Wide, Prompt, Silent, theTry, answersAtOnce, reachesResponder, passes, Between, over, silentShort, submitsBeside, initiatorMisses, responderAttends, responderServes, Tried, passed, again, Phase, Phases, opensFirst, orderAtOnce, saysNothing}
 use Rattle.demand_3.specs.Demand.{Demand}

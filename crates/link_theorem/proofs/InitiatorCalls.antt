@@ -22,10 +22,9 @@ use Rattle.initiator.specs.declared.state.Phase.the-variants.{Closed, Ready, Op
 use Rattle.demand_3.proofs.Follows.{Same}
 use Rattle.link_model.specs.Coded.{Codec, responseOf, putTurn, coded}
 use Rattle.link_model.specs.Initiator as message
-use Rattle.demand_3.specs.Line.{Permitted}
 use Rattle.link_model.specs.Messages as said
 use Rattle.demand_3.specs.Turns.{Outcome, Turn, refusing}
-use Rattle.link_rules.specs.Rules.{room, longest, Linked}
+use Rattle.link_rules.specs.Rules.{room, longest, Linked, Permitted}
 use Rattle.link_rules.specs.declared.link.Link.{Link}
 use Rattle.link_telegrams.specs.Headers.{cycledBit, openingHeader, orderHeader}
 use Rattle.link_telegrams.specs.Heard.{replyHeardOf}
@@ -181,7 +180,7 @@ module _ (link : Link) (linked : Linked link) where
   -- a record made with permitted tries is closed
   module _ (n : ℕ) (tries : Permitted n) where
     made-closed : madeOf link n .end ≡ closedOf link n
-    made-closed = maker.made-closed link n linked (record { from-one = tries .0; to-most = tries .1 })
+    made-closed = maker.made-closed link n linked tries
 
     pub made-seen : initiatorSeen (madeOf link n .end) ≡ message.newInitiator n
     made-seen = rw made-closed

@@ -188,7 +188,7 @@ one-of true y z e = inl refl
 one-of false true z e = inr (inl refl)
 one-of false false z e = inr (inr e)
 
-starts-true : (b : ℕ) → startsData b ≡ true → DataStart b
+pub starts-true : (b : ℕ) → startsData b ≡ true → DataStart b
 starts-true b t =
     ⊎-elim (λ e. inl (eqb-true _ _ e))
     (λ o. inr (⊎-elim (λ e. inl (eqb-true _ _ e)) (λ e. inr (eqb-true _ _ e)) o))

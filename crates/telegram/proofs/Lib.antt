@@ -13,6 +13,8 @@ pub mod WrittenLaws
 pub mod AgreementLaws
 -- laws of reading for callers: lengths, places, refusals
 pub mod ReadingLaws
+-- laws of the frame: reading is made from it, and what is known of one that was found
+pub mod FrameLaws
 -- laws of a stream: its rule without a count of steps, and what it is exactly
 pub mod StreamLaws
 -- every answer of reading, with what is known where it is given

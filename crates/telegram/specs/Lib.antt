@@ -5,9 +5,13 @@ pub mod Picture
 pub mod Begins
 -- document 01's steps of reading, with their refusals
 pub mod Reading
+-- the same up to step 3: where a data telegram stands, and whether it is sealed
+pub mod Frames
 -- the small questions that the Rust answers of a telegram
 pub mod Questions
 -- the smallest inputs that are read beyond the standard
 pub mod Samples
 -- the telegrams of a byte string, one behind the other, and how it ends
 pub mod Stream
+-- what private functions promise each other
+pub mod Leaves

@@ -1,9 +1,15 @@
-// Reading, after telegram.rs. Promise: `readOf` in specs/Reading.antt, with a function for each of its definitions.
+// Reading, after telegram.rs, made from the frame (frame.rt). Promise: `readOf` in specs/Reading.antt.
 ghost use mathlib.Core.Path.{_≡_};
 ghost use Prim.Native.Nat.{_+_, _<_, _≤_};
 ghost use lib.ListN.{length};
 ghost use Rattle.ground.specs.Bits.{digit};
-ghost use Rattle.telegram.specs.Reading.{shownReading, readOf, tokenOf, dataOf, lengthsOf, frameOf, contentOf, headerAt, sapsAt, sapAt, top};
+ghost use Rattle.telegram.specs.Frames.{frameIs, framingOf};
+ghost use Rattle.telegram.specs.Leaves.{readingOf};
+ghost use Rattle.telegram.specs.Reading.{shownReading, readOf, tokenOf, contentOf, headerAt, sapsAt, sapAt, top};
+use crate::frame::Frame;
+use crate::frame::FrameFound;
+use crate::frame::frame_of;
+use crate::frame::sum_holds;
 use crate::header::DataTelegramHeader;
 use crate::header::SapOption;
 use crate::kinds::DataTelegram;
@@ -80,7 +86,7 @@ fn read_content(buffer: &[u8], at: usize, l: usize, fc: FunctionCode) -> Deseria
     }
     let start = at + 3 + saps;
     let end = at + l;
-    if buffer[end] != codes::checksum(&buffer[at..end]) {
+    if !sum_holds(buffer, at, end) {
         return Deserialized::Refused(Refusal::Checksum);
     }
     let last = buffer[end + 1];
@@ -95,46 +101,27 @@ fn read_content(buffer: &[u8], at: usize, l: usize, fc: FunctionCode) -> Deseria
     Deserialized::Telegram(Telegram::Data(DataTelegram { h, pdu }), end + 2)
 }
 
-// Steps 3 and 4: the checksum and the end delimiter stand behind the `l` bytes.
-fn read_frame(buffer: &[u8], at: usize, l: usize) -> Deserialized
-    requires { ⌜ (at ≤ 4) × (3 ≤ l) × (l < 256) ⌝ }
-    ensures { λ r. ⌜ shownReading r ≡ frameOf (now (buffer .entry)) at l ⌝ }
+// Step 4, of a frame that was found in these bytes.
+fn read_framed(buffer: &[u8], frame: Frame) -> Deserialized
+    requires { ⌜ (3 ≤ frame .len) × (frame .at + frame .len + 2 ≤ length (now buffer)) ⌝ }
+    ensures { λ r. ⌜ shownReading r ≡ readingOf (now (buffer .entry)) (frameIs frame) ⌝ }
 {
-    if buffer.len() < at + l + 2 {
-        return Deserialized::Incomplete;
-    }
-    let FunctionCodeFound::Is(fc) = FunctionCode::from_byte(buffer[at + 2]) else {
+    let at = frame.at;
+    let l = frame.len;
+    let FunctionCodeFound::Is(fc) = FunctionCode::from_byte(frame.code) else {
         return Deserialized::Refused(Refusal::FunctionCode);
     };
     read_content(buffer, at, l, fc)
 }
 
-// Step 2. The fourth byte is never looked at.
-fn read_lengths(buffer: &[u8]) -> Deserialized
-    requires { ⌜ 6 ≤ length (now buffer) ⌝ }
-    ensures { λ r. ⌜ shownReading r ≡ lengthsOf (now (buffer .entry)) ⌝ }
-{
-    let l = buffer[1];
-    if l != buffer[2] {
-        return Deserialized::Refused(Refusal::LengthsDiffer);
-    }
-    if l < 3 {
-        return Deserialized::Refused(Refusal::LengthTooSmall);
-    }
-    read_frame(buffer, 4, l as usize)
-}
-
-// Step 1.
+// Steps 1 to 3 are the frame's, and so is a start that is none of a data telegram.
 fn read_data(buffer: &[u8]) -> Deserialized
-    ensures { λ r. ⌜ shownReading r ≡ dataOf (now (buffer .entry)) ⌝ }
+    ensures { λ r. ⌜ shownReading r ≡ readingOf (now (buffer .entry)) (framingOf (now (buffer .entry))) ⌝ }
 {
-    if buffer.len() < 6 {
-        return Deserialized::Incomplete;
-    }
-    match buffer[0] {
-        consts::SD1 => read_frame(buffer, 1, 3),
-        consts::SD2 => read_lengths(buffer),
-        _ => read_frame(buffer, 1, 11),
+    match frame_of(buffer) {
+        FrameFound::Is(frame) => read_framed(buffer, frame),
+        FrameFound::Incomplete => Deserialized::Incomplete,
+        FrameFound::Refused(refusal) => Deserialized::Refused(refusal),
     }
 }
 
@@ -162,8 +149,7 @@ impl Telegram {
         match buffer[0] {
             consts::SC => Deserialized::Telegram(Telegram::ShortConfirmation, 1),
             consts::SD4 => read_token(buffer),
-            consts::SD1 | consts::SD2 | consts::SD3 => read_data(buffer),
-            _ => Deserialized::Refused(Refusal::UnknownStart),
+            _ => read_data(buffer),
         }
     }
 }

@@ -92,6 +92,29 @@ module _ (own : ℕ) (l : List Bool) where
   unfolding previousOf
   previous-none e f = rw (e, f)
 
+-- ---- the list with other flags, as the code puts it together
+
+-- a flag marked leaves as many
+pub length-marked : (l m : List Bool) (at : ℕ) (on : Bool) → m ≡ set l at on → length l ≡ 128 → length m ≡ 128
+length-marked l m at on e h = rw e (length-set l at on ∙ h)
+
+-- and so does a pass
+pub length-gone : (l m : List Bool) (sa da : ℕ) → m ≡ passed sa da l → length l ≡ 128 → length m ≡ 128
+length-gone l m sa da e h = rw e (length-passed sa da l ∙ h)
+
+pub neighbours-stored : (flags : List Bool) (r : TokenRing) (next previous : Address)
+    → next .0 ≡ nextOf (r .«this_station» .0) flags → previous .0 ≡ previousOf (r .«this_station» .0) flags
+    → record {
+      «active_stations» = flags;
+      «las_state» = r .«las_state»;
+      «this_station» = r .«this_station»;
+      «next_station» = next;
+      «previous_station» = previous;
+    }
+    ≡ withFlags flags r
+unfolding withFlags
+neighbours-stored flags r next previous n p = rw (← n, ← p)
+
 -- ---- an own, set or removed address: above 125 it is refused
 
 module _ (a : ℕ) where

@@ -13,14 +13,14 @@ use ground::Address;
 use ground::Answer;
 use ground::Refusal;
 ghost use mathlib.Core.Path.{_≡_};
-ghost use Prim.Native.Nat.{suc, _≤_, _<_};
+ghost use Prim.Native.Nat.{suc, _<_};
 ghost use lib.ListN.{length};
 ghost use Rattle.ground.specs.Pick.{if};
 ghost use Rattle.token_ring.specs.Flags.{active, lowestFrom, highestBelow, shownFound};
 ghost use Rattle.token_ring.specs.Phases.{isValid};
 ghost use Rattle.token_ring.specs.Leaves.{Hears};
 ghost use Rattle.token_ring.specs.Promises.{Gives};
-ghost use Rattle.token_ring.specs.Rules.{claimed, effectOf, fresh, inPhase, made, nextSet, removed, stationAnswer, updated, withFlags, witnessed, wrap};
+ghost use Rattle.token_ring.specs.Rules.{claimed, effectOf, fresh, inPhase, made, nextSet, removed, stationAnswer, witnessed, wrap};
 
 // Management of the token ring from the station's point of view.
 pub struct TokenRing {
@@ -240,25 +240,6 @@ impl TokenRing {
         }
     }
 
-    fn update_next_previous(mut self) -> TokenRing
-        ensures { λ r. ⌜ r ≡ withFlags (self .«active_stations») self ⌝ }
-    {
-        let own = self.this_station.0;
-        let next = next_of(&self.active_stations, own);
-        let previous = previous_of(&self.active_stations, own);
-        self.next_station = next;
-        self.previous_station = previous;
-        self
-    }
-
-    fn update_las_from_token_pass(mut self, sa: u8, da: u8) -> TokenRing
-        requires { ⌜ da ≤ 128 ⌝ }
-        ensures { λ r. ⌜ r ≡ updated sa da self ⌝ }
-    {
-        pass(&mut self.active_stations, sa as usize, da as usize);
-        self.update_next_previous()
-    }
-
     pub fn witness_token_pass(mut self, sa: Address, da: Address) -> TokenRing
         ensures { λ r. ⌜ r ≡ witnessed (sa .0) (da .0) self ⌝ }
     {
@@ -307,11 +288,16 @@ impl TokenRing {
                 ring: self,
             };
         }
-        mark(&mut self.active_stations, next as usize, true);
         let own = self.this_station.0;
+        mark(&mut self.active_stations, next as usize, true);
+        pass(&mut self.active_stations, own as usize, next as usize);
+        let after = next_of(&self.active_stations, own);
+        let before = previous_of(&self.active_stations, own);
+        self.next_station = after;
+        self.previous_station = before;
         Changed {
             answer: Answer::Done,
-            ring: self.update_las_from_token_pass(own, next),
+            ring: self,
         }
     }
 
@@ -325,10 +311,15 @@ impl TokenRing {
                 ring: self,
             };
         }
+        let own = self.this_station.0;
         mark(&mut self.active_stations, gone as usize, false);
+        let after = next_of(&self.active_stations, own);
+        let before = previous_of(&self.active_stations, own);
+        self.next_station = after;
+        self.previous_station = before;
         Changed {
             answer: Answer::Done,
-            ring: self.update_next_previous(),
+            ring: self,
         }
     }
 }

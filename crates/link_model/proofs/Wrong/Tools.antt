@@ -8,19 +8,19 @@ use mathlib.Core.List.{List, [], _∷_}
 use mathlib.Core.Path.{_≡_, refl, ap, subst, subst⁻¹}
 use Rattle.demand_3.specs.Turns.{Bytes, Outcome, confirmed, notSent}
 use Rattle.demand_3.specs.History.{Given, made, awaited, dropped, HandUp, handUp, Report, ended, Entry, entry, History, history}
-use Rattle.demand_3.specs.Line.{Permitted}
+use Rattle.link_rules.specs.Rules.{Permitted}
 use Rattle.demand_3.specs.Safe.{triesOf, writtenOf, entriesOf, Safe}
 use Rattle.demand_3.specs.Live.{reportAt, Confirmed}
 use Rattle.link_model.proofs.Kept.{IsConfirmed}
 
 pub one-try : Permitted 1
-one-try = (lit≤ tt, lit≤ tt)
+one-try = record { from-one = lit≤ tt; to-most = lit≤ tt }
 
 pub two-tries : Permitted 2
-two-tries = (lit≤ tt, lit≤ tt)
+two-tries = record { from-one = lit≤ tt; to-most = lit≤ tt }
 
 pub three-tries : Permitted 3
-three-tries = (lit≤ tt, lit≤ tt)
+three-tries = record { from-one = lit≤ tt; to-most = lit≤ tt }
 
 differ : (m n : ℕ) → T (not (eqb m n)) → m ≡ n → ⊥
 differ m n t e = T-not (eqb m n) t (subst (λ x. T (eqb m x)) e (eqb-refl m))

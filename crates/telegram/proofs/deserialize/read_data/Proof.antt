@@ -1,36 +1,38 @@
--- `read_data` meets its contract: each return is a case of step 1.
+-- `read_data` meets its contract: each answer of `frame_of` leads to its reading; a frame that was found fits the bytes.
+use mathlib.Core.Path.{sym, ap, _∙_}
+use native.Mathlib.Omega.{arith}
 use borrow.Author.Needs.{needs}
-use Rattle.telegram.proofs.Answers.{data-under, sd1-read, sd2-read, sd3-read}
+use Rattle.telegram.proofs.FrameLaws.{found-frame}
+use Rattle.telegram.specs.Frames.{shownFrame}
 use Rattle.telegram.proofs.deserialize.read_data.Statement.{statement}
 use Rattle.telegram.proofs.deserialize.read_data.Tie as tie
 
-under-six : tie.Need-returns
-under-six c = rw (data-under _ (c .if1 .taken))
+read-framed-requires : tie.Need-read-framed-requires
+read-framed-requires c κs =
+    let k = c .before .before .before in
+    let fits = found-frame _ _ (sym (k .frame-of .ensures) ∙ ap shownFrame (c .before .frame .given .1)) in
+    (fits .long, omega (arith, fits .counted, fits .within))
 
-sd1 : tie.Need-returns-2
-sd1 c =
-    let m = c .before in
-    rw (sd1-read _ (m .before .before .if1 .left) (m .match .keys1)) (c .read-frame .ensures)
+framed : tie.Need-returns
+framed c =
+    let f = c .before .before in
+    rw (sym (f .before .before .frame-of .ensures) ∙ ap shownFrame (f .frame .given .1)) (c .read-framed .ensures)
 
-sd2 : tie.Need-returns-3
-sd2 c =
-    let m = c .before in
-    rw (sd2-read _ (m .before .before .if1 .left) (m .match .keys2)) (c .read-lengths .ensures)
+incomplete : tie.Need-returns-2
+incomplete c = rw (sym (c .before .before .frame-of .ensures) ∙ ap shownFrame (c .enum-told .given .1))
 
-sd3 : tie.Need-returns-4
-sd3 c =
-    let m = c .before in
-    rw (sd3-read _ (m .before .before .if1 .left) (m .match .rest .0 .1) (m .match .rest .1)) (c .read-frame2 .ensures)
+refused : tie.Need-returns-3
+refused c = rw (sym (c .before .before .before .frame-of .ensures) ∙ ap shownFrame (c .before .refusal .given .1))
 
 pub read-data-spec : {M : Type 1} → statement M
 read-data-spec =
     tie.close
     (tie.spec
-    under-six
+    (λ c κs. search needs)
     (λ c. search needs)
-    (λ c κs. search needs)
-    (λ c κs. search needs)
-    (λ c κs. search needs)
-    sd1
-    sd2
-    sd3)
+    read-framed-requires
+    (λ c. search needs)
+    (λ c. search needs)
+    framed
+    incomplete
+    refused)

@@ -1,6 +1,7 @@
 -- `Telegram::deserialize` meets its contract: the first byte decides, and each arm is a case of it.
 use borrow.Author.Needs.{needs}
-use Rattle.telegram.proofs.Answers.{nothing-read, confirmation-read, token-start, data-start, unknown-read}
+use Rattle.telegram.proofs.Answers.{nothing-read, confirmation-read, token-start}
+use Rattle.telegram.proofs.FrameLaws.{framed-read}
 use Rattle.telegram.proofs.kinds.Telegram.deserialize.Statement.{statement}
 use Rattle.telegram.proofs.kinds.Telegram.deserialize.Tie as tie
 
@@ -18,11 +19,7 @@ token c =
 data-telegram : tie.Need-returns-4
 data-telegram c =
     let m = c .before in
-    rw (data-start _ (m .before .before .if1 .left) (m .match .keys3)) (c .read-data .ensures)
-
-unknown : tie.Need-returns-5
-unknown c =
-    rw (unknown-read _ (c .before .before .if1 .left) (c .match .rest .0 .0 .1) (c .match .rest .0 .1) (c .match .rest .1))
+    rw (framed-read _ (m .before .before .if1 .left) (m .match .rest .0 .1) (m .match .rest .1)) (c .read-data .ensures)
 
 pub deserialize-spec : {M : Type 1} → statement M
 deserialize-spec =
@@ -34,5 +31,4 @@ deserialize-spec =
     (λ c κs. search needs)
     confirmation
     token
-    data-telegram
-    unknown)
+    data-telegram)

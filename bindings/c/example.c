@@ -9,8 +9,8 @@
 static uint8_t initiator[KOY_INITIATOR_SIZE];
 static uint8_t responder[KOY_RESPONDER_SIZE];
 
-/* what stands on the line; an end writes into `out` while it hears `line` */
-static uint8_t line[255], out[255];
+/* what stands on the line; an end writes into `out` while it hears `line`, and noise may be longer than what we write */
+static uint8_t line[KOY_LONGEST_TELEGRAM], out[255];
 static size_t line_len;
 static size_t told[3];
 

@@ -12,8 +12,11 @@
  * Codes. A call that may refuse returns 0 for done or the number of document 01's refusal (1 to 22), and some calls one of
  * the codes from 100 on. A REFUSED CALL LEAVES ALL THAT IT WAS LENT AS IT CAME; only a refused walk moves its cursor.
  *
- * State is lent as bytes of a stated size and belongs to the caller: copy it, store it, send it. The layout is given
- * below and every content is answered.
+ * State is lent as bytes of a stated size and belongs to the caller. The layout is given below and every content is answered. The
+ * station list may be copied, stored and sent. A LINK'S RECORD IS NEVER COPIED BACK OR LOADED: see "the order link".
+ *
+ * Buffers. To write, 255 bytes are always enough. To receive, take KOY_LONGEST_TELEGRAM: noise as 68 FF FF 68 ... announces 261
+ * bytes, and koy_read answers KOY_INCOMPLETE until they are there; a buffer of 255 would wait for them for ever.
  */
 #ifndef KOYANDEFA_H
 #define KOYANDEFA_H
@@ -62,6 +65,9 @@ extern "C" {
 /* stands where a byte is absent: an address, a SAP, a function code */
 #define KOY_ABSENT 256
 
+/* the room of a receive buffer; so many bytes are never KOY_INCOMPLETE */
+#define KOY_LONGEST_TELEGRAM 261
+
 /* ---- telegrams ---- */
 
 /* Reads the telegram that the bytes begin with. 0: told is
@@ -86,7 +92,8 @@ uint8_t koy_write_confirmation(uint8_t *buf, size_t buf_len);
 
 /* ---- the station list ---- */
 
-/* [0] phase: 0 Uninitialized, 1 Discovery, 2 Verification, 3 Valid; any other counts as 0
+/* These bytes may be copied, stored and sent.
+ * [0] phase: 0 Uninitialized, 1 Discovery, 2 Verification, 3 Valid; any other counts as 0
  * [1] own  [2] next  [3] previous station  [4..131] a flag for each address; any byte but 0 counts as set */
 #define KOY_STATIONS_SIZE 132
 
@@ -129,6 +136,18 @@ uint8_t koy_settings_read(const uint8_t *text, size_t text_len, size_t told[3]);
 /* Writes one to the front of buf; told[0] is its length. 18, 19, 10 in this order. */
 uint8_t koy_settings_write(uint8_t own, uint8_t peer, uint8_t tries, uint8_t *buf, size_t buf_len, size_t told[1]);
 
+/* ---- the order link: what its records ask of a driver ---- */
+
+/* That no order is carried out twice, and no old reply shown for a new order, holds while every call is lent the record as the
+ * call before it left it. So keep one record for each end of a link, and
+ *   after a loss of power, or where the record is gone: koy_..._new; an order pending then was carried out at most once
+ *   after a restart with the record at hand, as the last call left it: koy_..._restart; the initiator's tells what became of a
+ *     pending order
+ *   never: an older copy put back or loaded from a store, or two threads on one record without a lock.
+ * What goes wrong otherwise, at the head end and at the cabinet:
+ *   order 1 confirmed; STORED; close-18 confirmed; power lost; LOADED; open-19 submitted: confirmed by close-18's reply, never carried out
+ *   order 1 confirmed; STORED; close-18 carried out, its reply and power lost; LOADED; close-18 repeated: carried out a second time */
+
 /* ---- the order link, head end (libexports_link.a) ---- */
 
 /* [0] own  [1] peer  [2] tries  [3] phase: 0 closed, 1 ready for Low, 2 ready for High, 3 opening, 4 order under Low, 5 order
@@ -143,7 +162,7 @@ uint8_t koy_settings_write(uint8_t own, uint8_t peer, uint8_t tries, uint8_t *bu
  *   0: nothing to do. What is not named is 0.
  * tries are the telegrams written in the order's last phase. */
 
-/* A link that is closed. tries 1 to 8 (2 is the default). 18, 19. */
+/* A link that is closed: the first call, and the one after a loss of power. tries 1 to 8 (2 is the default). 18, 19. */
 uint8_t koy_initiator_new(uint8_t state[252], uint8_t own, uint8_t peer, uint8_t tries);
 /* Submits an order of 1 to 246 bytes. KOY_SENT; 10, 17, 16 in this order. */
 uint8_t koy_initiator_submit(uint8_t state[252], const uint8_t *order, size_t order_len, uint8_t *buf, size_t buf_len,
@@ -163,7 +182,7 @@ uint8_t koy_initiator_restart(uint8_t state[252], size_t told[3]);
  * [4..249] the held reply */
 #define KOY_RESPONDER_SIZE 250
 
-/* A responder that remembers nothing. 18. */
+/* A responder that remembers nothing: the first call, and the one after a loss of power. 18. */
 uint8_t koy_responder_new(uint8_t state[250], uint8_t own, uint8_t peer);
 /* These bytes were heard. KOY_SENT: told[0] is the telegram's length. KOY_HANDED_UP: the order is heard[told[0]], told[1]
  * bytes. 0: nothing to do. 10. */

@@ -3,6 +3,9 @@
 //! which are written in Rattle; every call is proved to answer every input as document 01 says. No dependencies.
 //!
 //! A refused call returns the [`Refusal`] with document 01's number and leaves all that it was lent as it came.
+//!
+//! The [`StationList`] may be cloned, stored and loaded. The two ends of the link may not: an older record put back shows an old reply for
+//! a new order ([`Initiator`]) or carries an order out twice ([`Responder`]). They are moved only, and two threads need a lock.
 
 mod diagnostics;
 mod ffi;
@@ -17,4 +20,6 @@ pub use link::{Initiator, InitiatorAnswer, Responder, ResponderAnswer, DEFAULT_T
 pub use refusal::Refusal;
 pub use settings::Settings;
 pub use stations::{Phase, StationList};
-pub use telegram::{read, write_confirmation, write_data, write_token, Header, Reading, Sent, Telegram};
+pub use telegram::{
+    read, write_confirmation, write_data, write_token, Header, Reading, Sent, Telegram, LONGEST_TELEGRAM,
+};

@@ -1,16 +1,24 @@
-//! The two ends of the order link.
+//! The two ends of the order link. Neither can be cloned, stored or loaded: an older record would make demand 3 false.
 use crate::ffi;
 use crate::refusal::{done, Refusal};
 use std::ops::Range;
 
-/// Calls that may write want this much room.
+#[cfg(test)]
+mod tests;
+
+/// Calls that may write want this much room. What is received may be longer: [`crate::LONGEST_TELEGRAM`].
 pub const ROOM: usize = 255;
 /// The longest order, and the longest reply.
 pub const LONGEST_ORDER: usize = 246;
 pub const DEFAULT_TRIES: u8 = 2;
 
 /// The head end: it submits orders and reports what became of them.
-#[derive(Clone, Debug, PartialEq, Eq)]
+///
+/// It is moved and never copied, stored or loaded; keep one for a link. After a loss of power, or a new start of the program, make it
+/// with [`Initiator::new`]; where it is still there, call [`Initiator::restart`]. What an older record would do: order 1 confirmed,
+/// record stored, `close-18` confirmed, power lost, record loaded, `open-19` submitted: confirmed with `close-18`'s reply, never
+/// carried out.
+#[derive(Debug, PartialEq, Eq)]
 pub struct Initiator {
     state: [u8; ffi::KOY_INITIATOR_SIZE],
 }
@@ -50,21 +58,12 @@ fn initiator_answer(code: u8, told: [usize; 3]) -> Result<InitiatorAnswer, Refus
 }
 
 impl Initiator {
-    /// A link that is closed; 1 to 8 tries. Refusals 18, 19, in this order.
+    /// A link that is closed; 1 to 8 tries. Refusals 18, 19, in this order. An order that was pending in a record now lost was carried
+    /// out at most once.
     pub fn new(own: u8, peer: u8, tries: u8) -> Result<Initiator, Refusal> {
         let mut state = [0; ffi::KOY_INITIATOR_SIZE];
         done(unsafe { ffi::koy_initiator_new(&mut state, own, peer, tries) })?;
         Ok(Initiator { state })
-    }
-
-    /// The record as bytes, to be stored; the header koyandefa.h gives their layout.
-    pub fn to_bytes(&self) -> [u8; ffi::KOY_INITIATOR_SIZE] {
-        self.state
-    }
-
-    /// The record of any bytes: every content is answered.
-    pub fn from_bytes(state: [u8; ffi::KOY_INITIATOR_SIZE]) -> Initiator {
-        Initiator { state }
     }
 
     /// An order of 1 to 246 bytes. Refusals 10, 17, 16, in this order.
@@ -106,7 +105,7 @@ impl Initiator {
         initiator_answer(code, told)
     }
 
-    /// Closes the link and gives a pending order up.
+    /// Closes the link and gives a pending order up: says what became of it.
     pub fn restart(&mut self) -> InitiatorAnswer {
         let mut told = [0; 3];
         let code = unsafe { ffi::koy_initiator_restart(&mut self.state, &mut told) };
@@ -115,7 +114,11 @@ impl Initiator {
 }
 
 /// The cabinet's end: it hands each order up once, and repeats its reply.
-#[derive(Clone, Debug, PartialEq, Eq)]
+///
+/// It is moved and never copied, stored or loaded; keep one for a link. After a loss of power, or a new start of the program, make it
+/// with [`Responder::new`]; where it is still there, call [`Responder::restart`]. What an older record would do: record stored, an
+/// order carried out, its reply lost, record loaded, the order repeated: carried out twice.
+#[derive(Debug, PartialEq, Eq)]
 pub struct Responder {
     state: [u8; ffi::KOY_RESPONDER_SIZE],
 }
@@ -146,16 +149,6 @@ impl Responder {
         let mut state = [0; ffi::KOY_RESPONDER_SIZE];
         done(unsafe { ffi::koy_responder_new(&mut state, own, peer) })?;
         Ok(Responder { state })
-    }
-
-    /// The record as bytes, to be stored; the header koyandefa.h gives their layout.
-    pub fn to_bytes(&self) -> [u8; ffi::KOY_RESPONDER_SIZE] {
-        self.state
-    }
-
-    /// The record of any bytes: every content is answered.
-    pub fn from_bytes(state: [u8; ffi::KOY_RESPONDER_SIZE]) -> Responder {
-        Responder { state }
     }
 
     /// These bytes were heard. Refusal 10.

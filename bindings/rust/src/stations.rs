@@ -10,7 +10,7 @@ pub enum Phase {
     Valid,
 }
 
-/// The list of active stations from one station's point of view.
+/// The list of active stations from one station's point of view. It may be cloned, stored and loaded, as the link's ends may not.
 #[derive(Clone, Debug, PartialEq, Eq)]
 pub struct StationList {
     state: [u8; ffi::KOY_STATIONS_SIZE],

@@ -3,6 +3,10 @@ use crate::ffi;
 use crate::refusal::{done, Refusal};
 use std::ops::Range;
 
+/// The room of a receive buffer. We write 255 bytes at most, but bytes `68 FF FF 68 …`, noise or a foreign telegram, announce 261: in a
+/// shorter buffer they stay [`Reading::Incomplete`] for ever. 261 bytes never are.
+pub const LONGEST_TELEGRAM: usize = ffi::KOY_LONGEST_TELEGRAM;
+
 /// The header of a data telegram. `fc` is the function code's byte.
 #[derive(Clone, Copy, Debug, PartialEq, Eq)]
 pub struct Header {

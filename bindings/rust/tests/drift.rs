@@ -172,7 +172,7 @@ fn c_declares_what_is_exported() {
 fn the_numbers_agree() {
     let rust = numbers(&text("src/ffi.rs"), "pub const ", " = ");
     let c = numbers(&header(), "#define ", " ");
-    assert_eq!(rust.len(), 12);
+    assert_eq!(rust.len(), 13);
     for (name, value) in rust {
         assert_eq!(c.get(&name), Some(&value), "{name}");
     }

@@ -13,6 +13,7 @@ use Rattle.codes.proofs.function_code.FunctionCode.from_byte as fromByt
 use Rattle.codes.proofs.function_code.FunctionCode.new_response as newResponse
 use Rattle.codes.proofs.function_code.FunctionCode.new_srd_high as newSrdHigh
 use Rattle.codes.proofs.function_code.FunctionCode.new_srd_low as newSrdLow
+use Rattle.codes.proofs.function_code.FunctionCode.reply_to_byte as replyToByte
 use Rattle.codes.proofs.function_code.FunctionCode.to_byte as toByte
 use Rattle.codes.proofs.request_type.RequestType.expects_reply as expectsReply
 use Rattle.codes.proofs.request_type.RequestType.from_u8 as requestFromU8
@@ -37,6 +38,7 @@ pub record Calls : Type 0 where
   pub statusNumber : Determined statusNumber.ended statusNumber.Reads.Learnt
   pub fromByte : Determined fromByte.ended fromByte.Reads.Learnt
   pub toByte : Determined toByte.ended toByte.Reads.Learnt
+  pub replyToByte : Determined replyToByte.ended replyToByte.Reads.Learnt
   pub newSrdLow : Determined newSrdLow.ended newSrdLow.Reads.Learnt
   pub newSrdHigh : Determined newSrdHigh.ended newSrdHigh.Reads.Learnt
   pub newResponse : Determined newResponse.ended newResponse.Reads.Learnt
@@ -59,6 +61,7 @@ determined =
       statusNumber = fixed (λ κs a u v. refl);
       fromByte = fixed (λ κs a u v. refl);
       toByte = fixed (λ κs a u v. refl);
+      replyToByte = fixed (λ κs a u v. refl);
       newSrdLow = fixed (λ κs a u v. refl);
       newSrdHigh = fixed (λ κs a u v. refl);
       newResponse = fixed (λ κs a u v. refl);

@@ -1,30 +1,33 @@
 -- Laws of the function code: what is written is read back (`read-written`); what is read is written back, but for bit 7 of a response
--- (`written-read`); exactly 120 of the 256 bytes are read; and a code is read from its bytes and from no other (`code-read-exactly`).
+-- (`written-read`); exactly 120 of the 256 bytes are read; a code is read from its bytes and from no other (`code-read-exactly`); and
+-- whether a reply is expected is told by parts of the byte (`request-reply`, `response-reply`).
 use Prim.Native.Nat.{ℕ, zero, suc, _+_, _/_, _%_, _<_}
-use mathlib.Core.Path.{_≡_, refl, _∙_}
+use mathlib.Core.Path.{_≡_, refl, ap, _∙_}
 use mathlib.Core.Bool.{Bool, true, false}
 use native.Mathlib.Nat.{add-zero, zero-add, add-suc, suc-add, le-of-suc-le-suc, not-suc-le-zero}
 use native.Mathlib.Omega.{arith}
 use lib.Dec.{eqb, leb}
 use borrow.Author.Tests.{eqb-true, eq-eqb, ne-eqb, leb-true, leb-false}
-use Rattle.codes.proofs.NumberLaws.{frame-count-part-small, request-number-small, state-number-small, status-number-small}
+use Rattle.codes.proofs.NumberLaws.{frame-count-part-small, request-number-small, request-type-again, state-number-small, status-again, status-number-small}
 use Rattle.ground.proofs.Injective.{led-back, zero-one}
 use Rattle.ground.proofs.PickLaws.{both-first, both-second}
 use Rattle.codes.specs.FrameCountBits.{frameCountBitOf}
 use Rattle.ground.specs.Bits.{bit}
-use Rattle.codes.specs.FunctionCodes.{requestBits, requestOf, responseOf, functionCodeOf, codeByte, CodeRead, asWritten, bit7Set, keptByte, readFrom}
+use Rattle.codes.specs.FunctionCodes.{requestBits, requestOf, responseOf, functionCodeOf, replyFound, codeByte, CodeRead, asWritten, bit7Set, keptByte, readFrom}
 use Rattle.ground.specs.Pick.{if}
-use Rattle.codes.specs.RequestTypes.{requestTypeOf}
-use Rattle.codes.specs.Responses.{stateOf, statusOf}
+use Rattle.codes.specs.RequestTypes.{requestNumber, requestTypeOf, expectsReply}
+use Rattle.codes.specs.Responses.{stateOf, statusNumber, statusOf}
 use Rattle.codes.specs.declared.frame_count_bit.FrameCountBit.{FrameCountBit}
 use Rattle.codes.specs.declared.frame_count_bit.FrameCountBit.the-variants.{First, High, Low, Inactive}
 use Rattle.codes.specs.declared.function_code.FunctionCode.{FunctionCode}
 use Rattle.codes.specs.declared.function_code.FunctionCode.the-variants.{Request, Response}
 use Rattle.codes.specs.declared.function_code.FunctionCodeFound.{FunctionCodeFound}
 use Rattle.codes.specs.declared.function_code.FunctionCodeFound.the-variants.{Is, Nothing}
+use Rattle.codes.specs.declared.function_code.ReplyFound.the-variants as replyTo
 use Rattle.codes.specs.declared.request_type.RequestType.{RequestType}
 use Rattle.codes.specs.declared.request_type.RequestType.the-variants.{ClockValue, TimeEvent, SdaLow, SdnLow, SdaHigh, SdnHigh, MulticastSrd, FdlStatus, SrdLow, SrdHigh, Ident, LsapStatus}
 use Rattle.codes.specs.declared.request_type.RequestTypeFound.{RequestTypeFound}
+use Rattle.codes.specs.declared.request_type.RequestTypeFound.the-variants as requestFound
 use Rattle.codes.specs.declared.response.ResponseState.{ResponseState}
 use Rattle.codes.specs.declared.response.ResponseState.the-variants.{Slave, MasterNotReady, MasterWithoutToken, MasterInRing}
 use Rattle.codes.specs.declared.response.ResponseStateFound.{ResponseStateFound}
@@ -210,3 +213,59 @@ pub response-read :
     → responseOf state status ≡ functionCodeOf b
 unfolding functionCodeOf
 response-read b state status clear e f = rw (ne-eqb _ _ clear, e, f)
+
+-- ---- whether a reply is expected
+
+-- To a request of each type, and to a response of each status, by their numbers.
+pub type-reply :
+    (req : RequestType)
+    → replyFound (requestOf Inactive (requestTypeOf (requestNumber req))) ≡ replyTo.Is (expectsReply req)
+type-reply req = rw (request-type-again req)
+
+pub status-reply :
+    (status : ResponseStatus)
+    → replyFound (responseOf (stateFound.Is Slave) (statusOf (statusNumber status))) ≡ replyTo.Is false
+status-reply status = rw (status-again status)
+
+-- The frame count bit has no part in it.
+any-bit : (x y : FrameCountBit) (found : RequestTypeFound) → replyFound (requestOf x found) ≡ replyFound (requestOf y found)
+any-bit x y (requestFound.Is req) = refl
+any-bit x y requestFound.Nothing = refl
+
+-- Nor has the state, which two bits always name.
+isNamed : ResponseStateFound → Bool
+isNamed (stateFound.Is state) = true
+isNamed stateFound.Nothing = false
+
+namedAt : ℕ → Bool
+namedAt n = isNamed (stateOf n)
+
+all-named : allFrom namedAt 0 4 ≡ true
+unfolding allFrom namedAt isNamed stateOf
+all-named = refl
+
+any-state :
+    (state : ResponseState) (x : ResponseStateFound) (found : ResponseStatusFound) → isNamed x ≡ true
+    → replyFound (responseOf (stateFound.Is state) found) ≡ replyFound (responseOf x found)
+unfolding isNamed
+any-state state (stateFound.Is other) (statusFound.Is status) t = refl
+any-state state (stateFound.Is other) statusFound.Nothing t = refl
+any-state state stateFound.Nothing found t = absurd (zero-one (cc))
+
+-- Bit 6 set: it is told by the request's number.
+pub request-reply :
+    (b : ℕ) → b / 64 % 2 ≡ 1
+    → replyFound (requestOf Inactive (requestTypeOf (requestBits b))) ≡ replyFound (functionCodeOf b)
+request-reply b set =
+    any-bit Inactive (frameCountBitOf (bit 4 b) (bit 5 b)) (requestTypeOf (requestBits b))
+    ∙ ap replyFound (request-read b _ _ set refl refl)
+
+-- Bit 6 clear: by the status.
+pub response-reply :
+    (b : ℕ) → (b / 64 % 2 ≡ 1 → ⊥)
+    → replyFound (responseOf (stateFound.Is Slave) (statusOf (b % 16))) ≡ replyFound (functionCodeOf b)
+unfolding namedAt
+response-reply b clear =
+    any-state Slave (stateOf (b / 16 % 4)) (statusOf (b % 16))
+    (rw zero-add at (at-each namedAt 0 4 all-named (b / 16 % 4) (omega arith)))
+    ∙ ap replyFound (response-read b _ _ clear refl refl)

@@ -1,17 +1,19 @@
--- Document 01, "Function code": the function code's byte, read (`functionCodeOf`) and written (`codeByte`), and which bytes a code has
--- (`CodeRead`).
+-- Document 01, "Function code": the function code's byte, read (`functionCodeOf`) and written (`codeByte`), which bytes a code has
+-- (`CodeRead`), and whether a reply is expected (`replyFound`).
 use Prim.Native.Nat.{ℕ, zero, suc, _+_, _*_, _/_, _%_, _^_}
 use mathlib.Core.Bool.{Bool, true, false}
 use Rattle.ground.specs.Bits.{bit, digit}
 use Rattle.codes.specs.FrameCountBits.{frameCountBitOf, fcvOf, fcbOf}
 use Rattle.ground.specs.Pick.{if}
-use Rattle.codes.specs.RequestTypes.{requestNumber, requestTypeOf}
+use Rattle.codes.specs.RequestTypes.{requestNumber, requestTypeOf, expectsReply}
 use Rattle.codes.specs.Responses.{stateNumber, stateOf, statusNumber, statusOf}
 use Rattle.codes.specs.declared.frame_count_bit.FrameCountBit.{FrameCountBit}
 use Rattle.codes.specs.declared.function_code.FunctionCode.{FunctionCode}
 use Rattle.codes.specs.declared.function_code.FunctionCode.the-variants.{Request, Response}
 use Rattle.codes.specs.declared.function_code.FunctionCodeFound.{FunctionCodeFound}
 use Rattle.codes.specs.declared.function_code.FunctionCodeFound.the-variants.{Is, Nothing}
+use Rattle.codes.specs.declared.function_code.ReplyFound.{ReplyFound}
+use Rattle.codes.specs.declared.function_code.ReplyFound.the-variants as replyTo
 use Rattle.codes.specs.declared.request_type.RequestTypeFound.{RequestTypeFound}
 use Rattle.codes.specs.declared.request_type.RequestTypeFound.the-variants as requestFound
 use Rattle.codes.specs.declared.response.ResponseState.{ResponseState}
@@ -47,6 +49,16 @@ functionCodeOf b =
     if (bit 6 b)
     (requestOf (frameCountBitOf (bit 4 b) (bit 5 b)) (requestTypeOf (requestBits b)))
     (responseOf (stateOf (b / 16 % 4)) (statusOf (b % 16)))
+
+-- "Replies are expected for all requests but 80, 0, 4 and 6": to no response
+abbrev pub isAnswered : FunctionCode → Bool
+isAnswered (Request fcb req) = expectsReply req
+isAnswered (Response state status) = false
+
+-- the same of what a byte is read as
+abbrev pub replyFound : FunctionCodeFound → ReplyFound
+replyFound (Is code) = replyTo.Is (isAnswered code)
+replyFound Nothing = replyTo.Nothing
 
 -- FCB at bit 5, FCV at bit 4
 abbrev pub frameCountPart : FrameCountBit → ℕ

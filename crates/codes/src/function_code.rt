@@ -1,6 +1,9 @@
-// The function code, to and from its byte. Promise: `codeByte`, `functionCodeOf` and `responseCode` in specs/FunctionCodes.antt.
+// The function code, to and from its byte, and whether a byte that is not decoded asks for a reply. Promise: `codeByte`,
+// `functionCodeOf`, `replyFound` and `responseCode` in specs/FunctionCodes.antt.
 ghost use mathlib.Core.Path.{_≡_};
-ghost use Rattle.codes.specs.FunctionCodes.{codeByte, functionCodeOf, frameCountPart, responseCode};
+ghost use Rattle.codes.specs.FunctionCodes.{codeByte, functionCodeOf, frameCountPart, replyFound, requestOf, responseCode, responseOf};
+ghost use Rattle.codes.specs.RequestTypes.{requestTypeOf};
+ghost use Rattle.codes.specs.Responses.{statusOf};
 use crate::frame_count_bit::FrameCountBit;
 use crate::request_type::RequestType;
 use crate::request_type::RequestTypeFound;
@@ -28,6 +31,12 @@ pub enum FunctionCodeFound {
     Nothing,
 }
 
+// Whether a reply is expected to the function code of a byte, or nothing where the byte is not read.
+pub enum ReplyFound {
+    Is(bool),
+    Nothing,
+}
+
 // FCB and FCV at their places in the byte.
 fn frame_count_part(fcb: FrameCountBit) -> u8
     ensures { λ r. ⌜ r ≡ frameCountPart fcb ⌝ }
@@ -37,6 +46,45 @@ fn frame_count_part(fcb: FrameCountBit) -> u8
         FrameCountBit::High => 0x30,
         FrameCountBit::Low => 0x10,
         FrameCountBit::Inactive => 0,
+    }
+}
+
+// Of a request by the number of its type: the frame count bit has no part in it.
+fn request_reply(b: u8) -> ReplyFound
+    ensures { λ r. ⌜ r ≡ replyFound (requestOf FrameCountBit.Inactive (requestTypeOf b)) ⌝ }
+{
+    match b {
+        0x80 => ReplyFound::Is(false),
+        0 => ReplyFound::Is(false),
+        3 => ReplyFound::Is(true),
+        4 => ReplyFound::Is(false),
+        5 => ReplyFound::Is(true),
+        6 => ReplyFound::Is(false),
+        7 => ReplyFound::Is(true),
+        9 => ReplyFound::Is(true),
+        12 => ReplyFound::Is(true),
+        13 => ReplyFound::Is(true),
+        14 => ReplyFound::Is(true),
+        15 => ReplyFound::Is(true),
+        _ => ReplyFound::Nothing,
+    }
+}
+
+// Of a response by the number of its status: two bits always name a state.
+fn response_reply(b: u8) -> ReplyFound
+    ensures { λ r. ⌜ r ≡ replyFound (responseOf (ResponseStateFound.Is ResponseState.Slave) (statusOf b)) ⌝ }
+{
+    match b {
+        0 => ReplyFound::Is(false),
+        1 => ReplyFound::Is(false),
+        2 => ReplyFound::Is(false),
+        3 => ReplyFound::Is(false),
+        8 => ReplyFound::Is(false),
+        9 => ReplyFound::Is(false),
+        10 => ReplyFound::Is(false),
+        12 => ReplyFound::Is(false),
+        13 => ReplyFound::Is(false),
+        _ => ReplyFound::Nothing,
     }
 }
 
@@ -67,6 +115,16 @@ impl FunctionCode {
             return FunctionCodeFound::Nothing;
         };
         FunctionCodeFound::Is(FunctionCode::Response { state, status })
+    }
+
+    // What a writer has to know of a byte that it passes on: no code is made of it.
+    pub fn reply_to_byte(b: u8) -> ReplyFound
+        ensures { λ r. ⌜ r ≡ replyFound (functionCodeOf b) ⌝ }
+    {
+        if b / 64 % 2 == 0 {
+            return response_reply(b % 16);
+        }
+        request_reply(b / 128 * 128 + b % 16)
     }
 
     pub fn new_srd_low(fcb: FrameCountBit) -> FunctionCode

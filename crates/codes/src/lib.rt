@@ -11,6 +11,7 @@ pub use frame_count_bit::Cycled;
 pub use frame_count_bit::FrameCountBit;
 pub use function_code::FunctionCode;
 pub use function_code::FunctionCodeFound;
+pub use function_code::ReplyFound;
 pub use request_type::RequestType;
 pub use request_type::RequestTypeFound;
 pub use response::ResponseState;

@@ -46,6 +46,9 @@ pub record Follows (S O : Pair) : Type 1 where
   pub sameAnswerable : (p : Bytes) → S .answerable p ≡ true → O .answerable p ≡ true
   pub enoughAnswer :
       (room : S .Room) (p : Bytes) → S .enough room ≡ true → S .answerable p ≡ true → O .enough (viewAnswer room p) ≡ true
+  pub sameOrderable : (q : Bytes) → S .orderable q ≡ true → O .orderable q ≡ true
+  pub enoughSubmit :
+      (room : S .Room) (q : Bytes) → S .enough room ≡ true → S .orderable q ≡ true → O .enough (viewSubmit room q) ≡ true
   -- the initiator
   pub madeInitiator : (n : ℕ) → Permitted n → viewInitiator (S .makeInitiator n) ≡ O .makeInitiator n
   pub madeSound : (n : ℕ) → Permitted n → SoundInitiator (S .makeInitiator n)

@@ -8,10 +8,10 @@ use mathlib.Core.Option.{Option, none, some, Option·map}
 use mathlib.Core.Path.{_≡_, refl, sym, _∙_, ap, subst, subst⁻¹}
 use Rattle.demand_3.specs.Turns.{Bytes, Outcome, Told, refused, nothing, tells, Turn}
 use Rattle.demand_3.specs.History.{History, Sent, submitted, counted, reported, leftPending, answered, openingHeard}
-use Rattle.demand_3.specs.Line.{Pair, State, Call, initiatorMade, submits, silent, initiatorHears, initiatorRestarts, responderMade, responderHears, answers, responderRestarts, closedBy, begun, sentAs, sentOf, initiatorDone, responderDone, step, start, run, Heard, inFlight, stray, Lawful, Obeys}
+use Rattle.demand_3.specs.Line.{Pair, State, Call, initiatorMade, submits, silent, initiatorHears, initiatorRestarts, responderMade, responderHears, answers, responderRestarts, closedBy, begun, sentAs, sentOf, stillOr, initiatorDone, restartDone, responderDone, step, start, run, Heard, inFlight, stray, Lawful, Obeys}
 use Rattle.link_rules.specs.Rules.{Permitted}
 use Rattle.demand_3.specs.Safe.{Safe}
-use Rattle.demand_3.specs.Live.{Accepted, Silent, Flight, theTry, theAnswer, another, answerTo, Missed, Wide, Prompt, answersAtOnce, reachesResponder, reachesInitiator, passes, Between, over, silentShort, submitsBeside, initiatorMisses, responderAttends, responderServes, answersLate, Tried, passed, again, Phase, Phases, opensFirst, orderAtOnce, saysNothing, Live}
+use Rattle.demand_3.specs.Live.{Takes, Accepted, Silent, Flight, theTry, theAnswer, another, answerTo, Missed, Wide, Prompt, answersAtOnce, reachesResponder, reachesInitiator, passes, Between, over, silentShort, submitsBeside, initiatorMisses, responderAttends, responderServes, answersLate, Tried, passed, again, Phase, Phases, opensFirst, orderAtOnce, saysNothing, Live}
 use Rattle.demand_3.specs.Demand.{Demand}
 use Rattle.demand_3.proofs.Follows.{Written, seenTurn, Same, Follows}
 
@@ -65,6 +65,33 @@ module _ (S O : Pair) (F : Follows S O) where
         unbroken = u;
         past = reported (t .says) (counted (sent-same (t .writes) i) h);
       }
+
+  still-same :
+      (w l : Option (S .Telegram))
+      → Option·map (F .viewTelegram) (stillOr w l) ≡ stillOr (Option·map (F .viewTelegram) w) (Option·map (F .viewTelegram) l)
+  still-same none l = refl
+  still-same (some t) l = refl
+
+  restart-done :
+      (s : State S) (t : Turn (S .Initiator) (S .Telegram) Outcome)
+      → toState (restartDone S s t) ≡ restartDone O (toState s) (seenTurn (F .viewInitiator) (F .viewTelegram) t)
+  restart-done s t =
+      λ i.
+      record {
+        initiator = F .viewInitiator (t .next);
+        responder = F .viewResponder (s .responder);
+        line = still-same (t .writes) (s .line) i;
+        tries = s .tries;
+        isClosed = closedBy (t .says) true;
+        unbroken = false;
+        past = reported (t .says) (counted (sent-same (t .writes) i) (s .past));
+      }
+
+  still-sound :
+      (w l : Option (S .Telegram)) → Written (F .SoundTelegram) w → Written (F .SoundTelegram) l
+      → Written (F .SoundTelegram) (stillOr w l)
+  still-sound none l x y = y
+  still-sound (some t) l x y = x
 
   -- what is heard is a telegram that came about, or a stray one
   initiator-met :
@@ -122,8 +149,8 @@ module _ (S O : Pair) (F : Follows S O) where
   step-same s (initiatorHears room t) y l =
       initiator-hears s room t y (initiator-met (s .initiator) (y .soundLine) l)
   step-same s initiatorRestarts y l =
-      initiator-done s true false (s .past) (S .initiatorRestart (s .initiator))
-      ∙ ap (initiatorDone O (toState s) true false (s .past)) (F .initiatorRestarts (s .initiator) (y .soundInitiator) .same)
+      restart-done s (S .initiatorRestart (s .initiator))
+      ∙ ap (restartDone O (toState s)) (F .initiatorRestarts (s .initiator) (y .soundInitiator) .same)
   step-same s responderMade y l =
       λ i.
       record {
@@ -145,7 +172,7 @@ module _ (S O : Pair) (F : Follows S O) where
       record {
         initiator = F .viewInitiator (s .initiator);
         responder = F .responderRestarts (s .responder) (y .soundResponder) .0 i;
-        line = none;
+        line = Option·map (F .viewTelegram) (s .line);
         tries = s .tries;
         isClosed = s .isClosed;
         unbroken = false;
@@ -174,7 +201,13 @@ module _ (S O : Pair) (F : Follows S O) where
   step-sound s (initiatorHears room t) y l =
       initiator-sound y
       (F .initiatorHears (s .initiator) room t (y .soundInitiator) (initiator-met (s .initiator) (y .soundLine) l))
-  step-sound s initiatorRestarts y l = initiator-sound y (F .initiatorRestarts (s .initiator) (y .soundInitiator))
+  step-sound s initiatorRestarts y l =
+      let m = F .initiatorRestarts (s .initiator) (y .soundInitiator) in
+      record {
+        soundInitiator = m .soundNext;
+        soundResponder = y .soundResponder;
+        soundLine = still-sound (S .initiatorRestart (s .initiator) .writes) (s .line) (m .soundWrites) (y .soundLine);
+      }
   step-sound s responderMade y l =
       record { soundInitiator = y .soundInitiator; soundResponder = F .responderSound; soundLine = y .soundLine }
   step-sound s (responderHears room t) y l =
@@ -185,7 +218,7 @@ module _ (S O : Pair) (F : Follows S O) where
       record {
         soundInitiator = y .soundInitiator;
         soundResponder = F .responderRestarts (s .responder) (y .soundResponder) .1;
-        soundLine = tt;
+        soundLine = y .soundLine;
       }
 
   initiator-heard :
@@ -436,6 +469,11 @@ module _ (S O : Pair) (F : Follows S O) where
       (subst (λ x. Phases O (sentOf S (t .writes)) x (toState z)) e
       (phases-same f (step-sound s (submits room q) y tt))))
 
+  takes-same : (s : State S) → Sound s → Takes O (toState s) → Takes S s
+  takes-same s y takes room q a b c =
+      subst⁻¹ (λ x. Accepted (x .says)) (F .submits (s .initiator) room q (y .soundInitiator) .same)
+      (takes (F .viewSubmit room q) q (F .enoughSubmit room q a b) (F .sameOrderable q b) c)
+
   pub demand-same : Demand O → Demand S
   demand-same d =
       record {
@@ -444,6 +482,10 @@ module _ (S O : Pair) (F : Follows S O) where
             λ n p cs o.
             live-same (run S (start S n) cs) (run-sound cs (start S n) (start-sound n p) o)
             (subst⁻¹ (Live O) (run-at n p cs o) (d .live n p (map toCall cs) (obeys-at n p cs o)));
+        takes =
+            λ n p cs o.
+            takes-same (run S (start S n) cs) (run-sound cs (start S n) (start-sound n p) o)
+            (subst⁻¹ (Takes O) (run-at n p cs o) (d .takes n p (map toCall cs) (obeys-at n p cs o)));
       }
     where
       run-at :

@@ -74,8 +74,8 @@ leftPending (history (entry q u pending o n ∷ es) cs x) = history (entry q u a
 leftPending (history (entry q u abandoned o n ∷ es) cs x) = history (entry q u abandoned o n ∷ es) cs x
 leftPending (history (entry q u (ended r) o n ∷ es) cs x) = history (entry q u (ended r) o n ∷ es) cs x
 
--- An order is handed up. It counts for the latest order: the telegram heard was written in the call before, so no
--- order was submitted since. An end that carries an older order out late is not let off by that: the bytes are then
+-- An order is handed up. It counts for the latest order: but for restarts, the telegram heard was written in the call
+-- before, so no order was submitted since. An end that carries an older order out late is not let off by that: the bytes are then
 -- another order's, and that they are the latest one's is a clause of the demand.
 abbrev pub handedUp : Bytes → History → History
 handedUp p (history [] cs x) = history [] (p ∷ cs) x

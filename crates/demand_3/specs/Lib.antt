@@ -7,7 +7,7 @@ pub mod History
 pub mod Line
 -- the demand's clauses about what has happened
 pub mod Safe
--- its last sentence
+-- its last sentence, and which orders are taken
 pub mod Live
 -- the demand
 pub mod Demand

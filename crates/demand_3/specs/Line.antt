@@ -28,6 +28,8 @@ pub record Pair : Type 1 where
   -- The rest is not the ends' to choose: in a pair of ends on bytes it is what document 01 says.
   -- Room enough: "link calls that may write want 255 bytes".
   pub enough : Room → Bool
+  -- An order that may be submitted: "1 to 246 bytes".
+  pub orderable : Bytes → Bool
   -- An answer that the application may give: "of at most 246 bytes".
   pub answerable : Bytes → Bool
   -- An opening: "First, empty PDU".
@@ -84,6 +86,11 @@ abbrev pub sentAs : Bool → Sent
 sentAs true = openingSent
 sentAs false = orderSent
 
+-- what is in flight after a restart: what the restart wrote, or else what was in flight before it
+abbrev pub stillOr : {T : Type 0} → Option T → Option T → Option T
+stillOr none l = l
+stillOr (some t) l = some t
+
 module _ (P : Pair) where
   -- what the initiator wrote
   abbrev pub sentOf : Option (P .Telegram) → Sent
@@ -104,6 +111,19 @@ module _ (P : Pair) where
         past = reported (t .says) (counted (sentOf (t .writes)) h);
       }
 
+  -- what a restart of the initiator leaves: the link closed, and what was in flight still in flight
+  abbrev pub restartDone : State P → Turn (P .Initiator) (P .Telegram) Outcome → State P
+  restartDone s t =
+      record {
+        initiator = t .next;
+        responder = s .responder;
+        line = stillOr (t .writes) (s .line);
+        tries = s .tries;
+        isClosed = closedBy (t .says) true;
+        unbroken = false;
+        past = reported (t .says) (counted (sentOf (t .writes)) (s .past));
+      }
+
   -- what a call of the responder leaves: h is the history with what the call heard or answered
   abbrev pub responderDone : State P → History → Turn (P .Responder) (P .Telegram) Bytes → State P
   responderDone s h t =
@@ -118,8 +138,8 @@ module _ (P : Pair) where
       }
 
   -- One call. What it wrote is in flight afterwards, and what was in flight before is gone: "a written telegram is
-  -- heard in the very next call of the two ends, or never". Making a record anew is no call of an end: the telegram
-  -- stays in flight.
+  -- heard in the very next call of the two ends, or never". But "with either end restarting at any moment", also while a
+  -- telegram is in flight: over a restart, and over the making of a record anew, the telegram stays in flight.
   abbrev pub step : State P → Call P → State P
   step s (initiatorMade n) =
       record {
@@ -137,7 +157,7 @@ module _ (P : Pair) where
   step s (silent room) = initiatorDone s (s .isClosed) (s .unbroken) (s .past) (P .silence (s .initiator) room)
   step s (initiatorHears room m) =
       initiatorDone s (s .isClosed) (s .unbroken) (s .past) (P .initiatorHear (s .initiator) room m)
-  step s initiatorRestarts = initiatorDone s true false (s .past) (P .initiatorRestart (s .initiator))
+  step s initiatorRestarts = restartDone s (P .initiatorRestart (s .initiator))
   step s responderMade =
       record {
         initiator = s .initiator;
@@ -156,7 +176,7 @@ module _ (P : Pair) where
       record {
         initiator = s .initiator;
         responder = P .responderRestart (s .responder);
-        line = none;
+        line = s .line;
         tries = s .tries;
         isClosed = s .isClosed;
         unbroken = false;

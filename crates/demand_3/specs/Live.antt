@@ -1,17 +1,17 @@
 -- The last sentence of demand 3, of any pair of ends: "If neither end has restarted since the opening began, the
 -- cabinet answers at once, and one permitted try of the opening and one of the order pass both ways, the order is
 -- confirmed." It speaks of the line and the callers alone: an end that writes nothing, or never reaches the order's
--- phase, is not excused.
+-- phase, is not excused. Nor is one that refuses orders: which are taken stands at the end.
 use Prim.Native.Nat.{ℕ, suc, _≤_}
 use lib.Dec.{eqb}
 use lib.ListN.{length}
-use mathlib.Core.Bool.{Bool, true, false}
+use mathlib.Core.Bool.{Bool, true, false, _||_}
 use mathlib.Core.List.{List, [], _∷_}
 use mathlib.Core.Option.{Option, none, some}
 use mathlib.Core.Path.{_≡_}
 use Rattle.ground.specs.Pick.{if}
 use Rattle.demand_3.specs.Turns.{Bytes, confirmed, Told, refused, nothing, tells}
-use Rattle.demand_3.specs.History.{Report, pending, ended, Entry, History, Sent, nothingSent, openingSent, orderSent}
+use Rattle.demand_3.specs.History.{Report, pending, abandoned, ended, Entry, History, Sent, nothingSent, openingSent, orderSent}
 use Rattle.demand_3.specs.Line.{Pair, State, submits, silent, initiatorHears, responderHears, answers, step, sentOf, Heard, inFlight, stray, Lawful}
 use Rattle.demand_3.specs.Safe.{reportOf, entriesOf}
 
@@ -29,6 +29,16 @@ abbrev pub Accepted : {A : Type 0} → Told A → Type 0
 Accepted refused = ⊥
 Accepted nothing = Unit {0}
 Accepted (tells a) = Unit {0}
+
+-- is an order pending; one that was left pending by a record made anew is not pending in the record in hand
+abbrev pub isPending : Report → Bool
+isPending pending = true
+isPending abandoned = false
+isPending (ended o) = false
+
+abbrev pub anyPending : List Entry → Bool
+anyPending [] = false
+anyPending (e ∷ es) = isPending (reportOf e) || anyPending es
 
 -- a call told nothing
 abbrev pub Silent : {A : Type 0} → Told A → Type 0
@@ -140,10 +150,17 @@ module _ (P : Pair) where
 
   -- The last sentence of demand 3, after any run: an order is submitted and accepted, neither end has restarted since
   -- the opening began, the cabinet answers at once, and one try passes in each phase; then the order is confirmed. What
-  -- is refused is no order; which are refused, and with which number, is the promise of the call and not demand 3's.
+  -- is refused is no order.
   abbrev pub Live : State P → Type 0
   Live s =
       (room : P .Room) (q : Bytes) (z : State P) → Accepted (P .submit (s .initiator) room q .says)
       → step P s (submits room q) .unbroken ≡ true
       → Phases (sentOf P (P .submit (s .initiator) room q .writes)) (step P s (submits room q)) z
       → Confirmed (length (entriesOf (s .past))) (z .past)
+
+  -- After any run an order of "1 to 246 bytes", submitted with room and with none pending, is accepted. With which number
+  -- any other is refused is the promise of the call and not demand 3's.
+  abbrev pub Takes : State P → Type 0
+  Takes s =
+      (room : P .Room) (q : Bytes) → P .enough room ≡ true → P .orderable q ≡ true → anyPending (entriesOf (s .past)) ≡ false
+      → Accepted (P .submit (s .initiator) room q .says)

@@ -23,13 +23,12 @@ use Rattle.responder.specs.Calls.{withRow, sendsReply, actsOf, hearIn, answerIn
 use Rattle.link_rules.specs.Rules.{longest, wrongLength}
 use Rattle.link_telegrams.proofs.TurnLaws.{Keeps, kept, writes-keeps, room-keeps}
 use Rattle.link_telegrams.specs.Turns.{Turn}
-use Rattle.responder_row.specs.Rows.{heldOf, blankRow, storedBit, sameBit, dropping, ignoring, againOn, otherOn, orderOn, rowHears, answersIn, rowAnswers, holding, rowAfter}
+use Rattle.responder_row.specs.Rows.{WholeTurn, heldOf, blankRow, storedBit, sameBit, dropping, ignoring, againOn, otherOn, orderOn, rowHears, answersIn, rowAnswers, holding, rowAfter}
 use Rattle.responder_row.specs.declared.row.Row.{Row}
 use Rattle.responder_row.specs.declared.row.RowAction.{RowAction}
 use Rattle.responder_row.specs.declared.row.RowAction.the-variants as action
 use Rattle.responder_row.specs.declared.row.RowState.{RowState}
 use Rattle.responder_row.specs.declared.row.RowState.the-variants.{Blank, Opened, Owes, Holds}
-use Rattle.responder_row.specs.declared.row.RowTurn.{RowTurn}
 use Rattle.responder_row.specs.declared.row.StoredBit.{StoredBit}
 use Rattle.responder_row.specs.declared.row.StoredBit.the-variants as stored
 use Rattle.responder.specs.declared.state.Responder.{Responder}
@@ -76,7 +75,7 @@ module _ (row : Row) (z : Sized row) where
   again-sized (Owes b) = z
   again-sized (Holds b) = z
 
-  picked : (t : Bool) (x y : RowTurn) → Sized (x .row) → Sized (y .row) → Sized (if t x y .row)
+  picked : (t : Bool) (x y : WholeTurn) → Sized (x .row) → Sized (y .row) → Sized (if t x y .row)
   picked true x y p q = p
   picked false x y p q = q
 

@@ -9,3 +9,5 @@ pub mod InitiatorCalls
 -- the responder: its record as bytes, and its calls
 pub mod ResponderBytes
 pub mod ResponderCalls
+-- what private functions promise each other
+pub mod Leaves

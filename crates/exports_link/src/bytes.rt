@@ -2,12 +2,14 @@
 ghost use mathlib.Core.Path.{_≡_};
 ghost use mathlib.Core.List.{_++_};
 ghost use Prim.Native.Nat.{_+_};
-ghost use lib.ListN.{drop, length};
+ghost use lib.ListN.{length};
 ghost use Rattle.exports_link.specs.Bytes.{byBit, lengthByte};
 ghost use Rattle.link_rules.specs.Rules.{linkOf};
 ghost use Rattle.exports_link.specs.Calls.{isRefusal};
+ghost use Rattle.exports_link.specs.Leaves.{cappedTo};
 use ground::Address;
 use ground::copy_to_front;
+use link_rules::LONGEST;
 use link_rules::Link;
 use link_telegrams::Bit;
 
@@ -44,14 +46,17 @@ pub(crate) fn length_byte(len: usize) -> u8
     255
 }
 
-// The last 246 bytes: the order or the reply.
-pub(crate) fn tail(bytes: &[u8], from: usize) -> [u8; 246]
-    requires { ⌜ from + 246 ≡ length (now bytes) ⌝ }
-    ensures { λ r. ⌜ r ≡ drop from (now (bytes .entry)) ⌝ }
+// No more than an order or a reply has.
+pub(crate) fn capped(len: usize) -> usize
+    ensures { λ r. ⌜ r ≡ cappedTo len ⌝ }
 {
-    let mut last = [0u8; 246];
-    copy_to_front(&bytes[from..], &mut last);
-    last
+    if len <= LONGEST { len } else { LONGEST }
+}
+
+pub(crate) fn length_of(byte: u8) -> usize
+    ensures { λ r. ⌜ r ≡ byte ⌝ }
+{
+    byte as usize
 }
 
 // Fills the bytes of a record: nothing else of it is copied.

@@ -2,20 +2,24 @@
 ghost use mathlib.Core.Path.{_≡_};
 ghost use mathlib.Core.List.{List, [], _∷_};
 ghost use Prim.Native.Nat.{ℕ};
-ghost use lib.ListN.{length};
-ghost use Rattle.initiator.specs.Calls.{shownSaid, shownTurn};
-ghost use Rattle.exports_link.specs.Calls.{codeOf, toldOf, crossed};
-ghost use Rattle.exports_link.specs.InitiatorBytes.{phaseNumber, phaseOf, initiatorOf, initiatorBytes};
+ghost use lib.ListN.{drop, length};
+ghost use Rattle.initiator.specs.Calls.{shownSaid};
+ghost use Rattle.initiator.specs.Heads.{wholeOf, shownOn};
+ghost use Rattle.exports_link.specs.Leaves.{initiatorHeadOf, initiatorHeadIn};
+ghost use Rattle.exports_link.specs.Calls.{isRefusal, codeOf, toldOf, crossed};
+ghost use Rattle.exports_link.specs.InitiatorBytes.{phaseNumber, phaseOf, initiatorBytes};
 ghost use Rattle.exports_link.specs.InitiatorCalls.{outcomeCode, outcomeNumbers, initiatorCrosses, koyInitiatorNew, koyInitiatorSubmit, koyInitiatorSilence, koyInitiatorHear, koyInitiatorRestart};
 use crate::bytes::by_bit;
+use crate::bytes::capped;
 use crate::bytes::is_refusal;
 use crate::bytes::length_byte;
+use crate::bytes::length_of;
 use crate::bytes::link_of;
 use crate::bytes::store;
-use crate::bytes::tail;
 use initiator::Initiator;
 use initiator::InitiatorAnswer;
-use initiator::InitiatorTurn;
+use initiator::InitiatorHead;
+use initiator::InitiatorHeadTurn;
 use initiator::Phase;
 use link_telegrams::Bit;
 
@@ -43,16 +47,32 @@ fn phase_of(number: u8, used: u8) -> Phase
     }
 }
 
-fn unpack(bytes: [u8; 252]) -> Initiator
-    ensures { λ r. ⌜ (r ≡ initiatorOf bytes) × (length bytes ≡ 252) ⌝ }
+// The record without its order, which stays where it is.
+fn head_of(state: &[u8; 252]) -> InitiatorHead
+    ensures { λ r. ⌜ r ≡ initiatorHeadOf (now (state .entry)) ⌝ }
 {
-    let link = link_of(bytes[0], bytes[1]);
-    let phase = phase_of(bytes[3], bytes[4]);
-    let order = tail(&bytes, 6);
-    Initiator::from_parts(link, bytes[2], phase, order, bytes[5] as usize)
+    let link = link_of(state[0], state[1]);
+    let phase = phase_of(state[3], state[4]);
+    let len = length_of(state[5]);
+    InitiatorHead {
+        link,
+        tries: state[2],
+        phase,
+        len,
+    }
 }
 
-fn pack(initiator: Initiator, state: &mut [u8; 252])
+// Phase, tries used and length anew; the rest stays.
+fn store_head(phase: Phase, len: usize, state: &mut [u8])
+    requires { ⌜ length (now state) ≡ 252 ⌝ }
+    ensures { λ _. ⌜ now (state .exit) ≡ initiatorBytes (wholeOf (initiatorHeadIn (now (state .entry)) phase len) (drop 6 (now (state .entry)))) ⌝ }
+{
+    state[3] = phase_number(phase);
+    state[4] = phase.tries_used();
+    state[5] = length_byte(capped(len));
+}
+
+fn pack(initiator: Initiator, state: &mut [u8])
     requires { ⌜ length (now state) ≡ 252 ⌝ }
     ensures { λ _. ⌜ now (state .exit) ≡ initiatorBytes initiator ⌝ }
 {
@@ -93,23 +113,36 @@ fn told_of(answer: InitiatorAnswer) -> [usize; 3]
     }
 }
 
+fn was_refused(answer: InitiatorAnswer) -> bool
+    ensures { λ r. ⌜ r ≡ isRefusal (codeOf outcomeCode (shownSaid answer)) ⌝ }
+{
+    match answer {
+        InitiatorAnswer::Sent(_) => false,
+        InitiatorAnswer::Confirmed(_, _) => false,
+        InitiatorAnswer::NotSent(_) => false,
+        InitiatorAnswer::Unknown(_) => false,
+        InitiatorAnswer::Nothing => false,
+        InitiatorAnswer::Refused(_) => true,
+    }
+}
+
 // A refused call left the record as it came, so its bytes are not touched.
-fn finish(turn: InitiatorTurn, state: &mut [u8; 252], told: &mut [usize; 3]) -> u8
+fn finish(turn: InitiatorHeadTurn, state: &mut [u8], told: &mut [usize; 3]) -> u8
     requires { ⌜ length (now state) ≡ 252 ⌝ }
-    ensures { λ r. ⌜ ((buf : List ℕ) → record { code = r; told = now (told .exit); state = now (state .exit); buffer = buf } ≡ crossed initiatorCrosses (now (state .entry)) (now (told .entry)) (shownTurn turn buf)) ⌝ }
+    ensures { λ r. ⌜ ((buf : List ℕ) → record { code = r; told = now (told .exit); state = now (state .exit); buffer = buf } ≡ crossed initiatorCrosses (now (state .entry)) (now (told .entry)) (shownOn turn (initiatorHeadOf (now (state .entry))) (drop 6 (now (state .entry))) buf)) ⌝ }
 {
     let answer = turn.answer;
     let code = code_of(answer);
-    if is_refusal(code) {
+    if was_refused(answer) {
         return code;
     }
     *told = told_of(answer);
-    let next = turn.initiator;
-    pack(next, state);
+    let phase = turn.phase;
+    store_head(phase, turn.len, state);
     code
 }
 
-fn made(own: u8, peer: u8, tries: u8, state: &mut [u8; 252]) -> u8
+fn made(own: u8, peer: u8, tries: u8, state: &mut [u8]) -> u8
     requires { ⌜ length (now state) ≡ 252 ⌝ }
     ensures { λ r. ⌜ record { code = r; state = now (state .exit) } ≡ koyInitiatorNew (now (state .entry)) own peer tries ⌝ }
 {
@@ -124,21 +157,50 @@ fn made(own: u8, peer: u8, tries: u8, state: &mut [u8; 252]) -> u8
     code
 }
 
-// Nothing of the old bytes is read but their number, which the array's type gives.
-fn size(bytes: [u8; 252]) -> usize
-    ensures { λ r. ⌜ (r ≡ 252) × (length bytes ≡ 252) ⌝ }
-{
-    252
-}
-
 // Refusals 18 and 19, in this order.
 #[no_mangle]
 pub extern "C" fn koy_initiator_new(state: &mut [u8; 252], own: u8, peer: u8, tries: u8) -> u8
     ensures { λ r. ⌜ record { code = r; state = now (state .exit) } ≡ koyInitiatorNew (now (state .entry)) own peer tries ⌝ }
 {
-    let bytes = *state;
-    size(bytes);
     made(own, peer, tries, state)
+}
+
+// The calls on the bytes behind an array's type: the order is lent as a part of them.
+
+fn submit(
+    head: InitiatorHead,
+    state: &mut [u8],
+    order: &[u8],
+    buf: &mut [u8],
+    told: &mut [usize; 3],
+) -> u8
+    requires { ⌜ (length (now state) ≡ 252) × (head ≡ initiatorHeadOf (now state)) ⌝ }
+    ensures { λ r. ⌜ record { code = r; told = now (told .exit); state = now (state .exit); buffer = now (buf .exit) } ≡ koyInitiatorSubmit (now (state .entry)) (now (order .entry)) (now (buf .entry)) (now (told .entry)) ⌝ }
+{
+    let turn = head.submit(&mut state[6..], order, buf);
+    finish(turn, state, told)
+}
+
+fn silence(head: InitiatorHead, state: &mut [u8], buf: &mut [u8], told: &mut [usize; 3]) -> u8
+    requires { ⌜ (length (now state) ≡ 252) × (head ≡ initiatorHeadOf (now state)) ⌝ }
+    ensures { λ r. ⌜ record { code = r; told = now (told .exit); state = now (state .exit); buffer = now (buf .exit) } ≡ koyInitiatorSilence (now (state .entry)) (now (buf .entry)) (now (told .entry)) ⌝ }
+{
+    let turn = head.silence(&state[6..], buf);
+    finish(turn, state, told)
+}
+
+fn hear(
+    head: InitiatorHead,
+    state: &mut [u8],
+    heard: &[u8],
+    buf: &mut [u8],
+    told: &mut [usize; 3],
+) -> u8
+    requires { ⌜ (length (now state) ≡ 252) × (head ≡ initiatorHeadOf (now state)) ⌝ }
+    ensures { λ r. ⌜ record { code = r; told = now (told .exit); state = now (state .exit); buffer = now (buf .exit) } ≡ koyInitiatorHear (now (state .entry)) (now (heard .entry)) (now (buf .entry)) (now (told .entry)) ⌝ }
+{
+    let turn = head.hear(&state[6..], heard, buf);
+    finish(turn, state, told)
 }
 
 #[no_mangle]
@@ -150,10 +212,8 @@ pub extern "C" fn koy_initiator_submit(
 ) -> u8
     ensures { λ r. ⌜ record { code = r; told = now (told .exit); state = now (state .exit); buffer = now (buf .exit) } ≡ koyInitiatorSubmit (now (state .entry)) (now (order .entry)) (now (buf .entry)) (now (told .entry)) ⌝ }
 {
-    let bytes = *state;
-    let initiator = unpack(bytes);
-    let turn = initiator.submit(order, buf);
-    finish(turn, state, told)
+    let head = head_of(state);
+    submit(head, state, order, buf, told)
 }
 
 #[no_mangle]
@@ -164,10 +224,8 @@ pub extern "C" fn koy_initiator_silence(
 ) -> u8
     ensures { λ r. ⌜ record { code = r; told = now (told .exit); state = now (state .exit); buffer = now (buf .exit) } ≡ koyInitiatorSilence (now (state .entry)) (now (buf .entry)) (now (told .entry)) ⌝ }
 {
-    let bytes = *state;
-    let initiator = unpack(bytes);
-    let turn = initiator.silence(buf);
-    finish(turn, state, told)
+    let head = head_of(state);
+    silence(head, state, buf, told)
 }
 
 #[no_mangle]
@@ -179,18 +237,15 @@ pub extern "C" fn koy_initiator_hear(
 ) -> u8
     ensures { λ r. ⌜ record { code = r; told = now (told .exit); state = now (state .exit); buffer = now (buf .exit) } ≡ koyInitiatorHear (now (state .entry)) (now (heard .entry)) (now (buf .entry)) (now (told .entry)) ⌝ }
 {
-    let bytes = *state;
-    let initiator = unpack(bytes);
-    let turn = initiator.hear(heard, buf);
-    finish(turn, state, told)
+    let head = head_of(state);
+    hear(head, state, heard, buf, told)
 }
 
 #[no_mangle]
 pub extern "C" fn koy_initiator_restart(state: &mut [u8; 252], told: &mut [usize; 3]) -> u8
     ensures { λ r. ⌜ record { code = r; told = now (told .exit); state = now (state .exit); buffer = [] } ≡ koyInitiatorRestart (now (state .entry)) (now (told .entry)) ⌝ }
 {
-    let bytes = *state;
-    let initiator = unpack(bytes);
-    let turn = initiator.restart();
+    let head = head_of(state);
+    let turn = head.restart();
     finish(turn, state, told)
 }

@@ -2,22 +2,26 @@
 ghost use mathlib.Core.Path.{_≡_};
 ghost use mathlib.Core.List.{List, [], _∷_};
 ghost use Prim.Native.Nat.{ℕ};
-ghost use lib.ListN.{length};
-ghost use Rattle.responder.specs.Calls.{shownSaid, shownTurn};
-ghost use Rattle.exports_link.specs.Calls.{codeOf, toldOf, crossed};
-ghost use Rattle.exports_link.specs.ResponderBytes.{stateNumber, stateOf, responderOf, responderBytes};
+ghost use lib.ListN.{drop, length};
+ghost use Rattle.responder.specs.Calls.{shownSaid, wholeOf, shownOn};
+ghost use Rattle.exports_link.specs.Leaves.{responderHeadOf};
+ghost use Rattle.exports_link.specs.Calls.{isRefusal, codeOf, toldOf, crossed};
+ghost use Rattle.exports_link.specs.ResponderBytes.{stateNumber, stateOf, responderBytes};
 ghost use Rattle.exports_link.specs.ResponderCalls.{orderCode, orderNumbers, responderCrosses, koyResponderNew, koyResponderHear, koyResponderAnswer, koyResponderRestart};
 use crate::bytes::by_bit;
 use crate::bytes::is_refusal;
 use crate::bytes::length_byte;
+use crate::bytes::length_of;
 use crate::bytes::link_of;
 use crate::bytes::store;
-use crate::bytes::tail;
+use link_rules::LONGEST;
 use link_telegrams::Bit;
 use responder::Responder;
 use responder::ResponderAnswer;
-use responder::ResponderTurn;
+use responder::ResponderHead;
+use responder::ResponderHeadTurn;
 use responder_row::Row;
+use responder_row::RowHead;
 use responder_row::RowState;
 
 fn state_number(state: RowState) -> u8
@@ -44,17 +48,34 @@ fn state_of(number: u8) -> RowState
     }
 }
 
-fn unpack(bytes: [u8; 250]) -> Responder
-    ensures { λ r. ⌜ (r ≡ responderOf bytes) × (length bytes ≡ 250) ⌝ }
+// The record without its held reply, which stays where it is.
+fn head_of(state: &[u8; 250]) -> ResponderHead
+    ensures { λ r. ⌜ r ≡ responderHeadOf (now (state .entry)) ⌝ }
 {
-    let link = link_of(bytes[0], bytes[1]);
-    let state = state_of(bytes[2]);
-    let held = tail(&bytes, 4);
-    let row = Row::from_parts(state, held, bytes[3] as usize);
-    Responder::from_parts(link, row)
+    let link = link_of(state[0], state[1]);
+    let row_state = state_of(state[2]);
+    let len = length_of(state[3]);
+    let row = RowHead {
+        state: row_state,
+        len,
+    };
+    ResponderHead { link, row }
 }
 
-fn pack(responder: Responder, state: &mut [u8; 250])
+// The first four bytes anew; the held reply stays.
+fn store_head(head: ResponderHead, state: &mut [u8])
+    requires { ⌜ length (now state) ≡ 250 ⌝ }
+    ensures { λ _. ⌜ now (state .exit) ≡ responderBytes (wholeOf head (drop 4 (now (state .entry)))) ⌝ }
+{
+    let row = head.row;
+    let row_state = row.state;
+    state[0] = head.link.own.0;
+    state[1] = head.link.peer.0;
+    state[2] = state_number(row_state);
+    state[3] = length_byte(row.held_len(LONGEST));
+}
+
+fn pack(responder: Responder, state: &mut [u8])
     requires { ⌜ length (now state) ≡ 250 ⌝ }
     ensures { λ _. ⌜ now (state .exit) ≡ responderBytes responder ⌝ }
 {
@@ -90,23 +111,34 @@ fn told_of(answer: ResponderAnswer) -> [usize; 2]
     }
 }
 
+fn was_refused(answer: ResponderAnswer) -> bool
+    ensures { λ r. ⌜ r ≡ isRefusal (codeOf orderCode (shownSaid answer)) ⌝ }
+{
+    match answer {
+        ResponderAnswer::Sent(_) => false,
+        ResponderAnswer::HandUp(_) => false,
+        ResponderAnswer::Nothing => false,
+        ResponderAnswer::Refused(_) => true,
+    }
+}
+
 // A refused call left the record as it came, so its bytes are not touched.
-fn finish(turn: ResponderTurn, state: &mut [u8; 250], told: &mut [usize; 2]) -> u8
+fn finish(turn: ResponderHeadTurn, state: &mut [u8], told: &mut [usize; 2]) -> u8
     requires { ⌜ length (now state) ≡ 250 ⌝ }
-    ensures { λ r. ⌜ ((buf : List ℕ) → record { code = r; told = now (told .exit); state = now (state .exit); buffer = buf } ≡ crossed responderCrosses (now (state .entry)) (now (told .entry)) (shownTurn turn buf)) ⌝ }
+    ensures { λ r. ⌜ ((buf : List ℕ) → record { code = r; told = now (told .exit); state = now (state .exit); buffer = buf } ≡ crossed responderCrosses (now (state .entry)) (now (told .entry)) (shownOn turn (drop 4 (now (state .entry))) buf)) ⌝ }
 {
     let answer = turn.answer;
     let code = code_of(answer);
-    if is_refusal(code) {
+    if was_refused(answer) {
         return code;
     }
     *told = told_of(answer);
-    let next = turn.responder;
-    pack(next, state);
+    let next = turn.head;
+    store_head(next, state);
     code
 }
 
-fn made(own: u8, peer: u8, state: &mut [u8; 250]) -> u8
+fn made(own: u8, peer: u8, state: &mut [u8]) -> u8
     requires { ⌜ length (now state) ≡ 250 ⌝ }
     ensures { λ r. ⌜ record { code = r; state = now (state .exit) } ≡ koyResponderNew (now (state .entry)) own peer ⌝ }
 {
@@ -121,21 +153,42 @@ fn made(own: u8, peer: u8, state: &mut [u8; 250]) -> u8
     code
 }
 
-// Nothing of the old bytes is read but their number, which the array's type gives.
-fn size(bytes: [u8; 250]) -> usize
-    ensures { λ r. ⌜ (r ≡ 250) × (length bytes ≡ 250) ⌝ }
-{
-    250
-}
-
 // Refusal 18.
 #[no_mangle]
 pub extern "C" fn koy_responder_new(state: &mut [u8; 250], own: u8, peer: u8) -> u8
     ensures { λ r. ⌜ record { code = r; state = now (state .exit) } ≡ koyResponderNew (now (state .entry)) own peer ⌝ }
 {
-    let bytes = *state;
-    size(bytes);
     made(own, peer, state)
+}
+
+// The calls on the bytes behind an array's type: the held reply is lent as a part of them.
+
+fn hear(
+    head: ResponderHead,
+    state: &mut [u8],
+    heard: &[u8],
+    buf: &mut [u8],
+    told: &mut [usize; 2],
+) -> u8
+    requires { ⌜ (length (now state) ≡ 250) × (head ≡ responderHeadOf (now state)) ⌝ }
+    ensures { λ r. ⌜ record { code = r; told = now (told .exit); state = now (state .exit); buffer = now (buf .exit) } ≡ koyResponderHear (now (state .entry)) (now (heard .entry)) (now (buf .entry)) (now (told .entry)) ⌝ }
+{
+    let turn = head.hear(&state[4..], heard, buf);
+    finish(turn, state, told)
+}
+
+fn answer(
+    head: ResponderHead,
+    state: &mut [u8],
+    reply: &[u8],
+    buf: &mut [u8],
+    told: &mut [usize; 2],
+) -> u8
+    requires { ⌜ (length (now state) ≡ 250) × (head ≡ responderHeadOf (now state)) ⌝ }
+    ensures { λ r. ⌜ record { code = r; told = now (told .exit); state = now (state .exit); buffer = now (buf .exit) } ≡ koyResponderAnswer (now (state .entry)) (now (reply .entry)) (now (buf .entry)) (now (told .entry)) ⌝ }
+{
+    let turn = head.answer(&mut state[4..], reply, buf);
+    finish(turn, state, told)
 }
 
 #[no_mangle]
@@ -147,10 +200,8 @@ pub extern "C" fn koy_responder_hear(
 ) -> u8
     ensures { λ r. ⌜ record { code = r; told = now (told .exit); state = now (state .exit); buffer = now (buf .exit) } ≡ koyResponderHear (now (state .entry)) (now (heard .entry)) (now (buf .entry)) (now (told .entry)) ⌝ }
 {
-    let bytes = *state;
-    let responder = unpack(bytes);
-    let turn = responder.hear(heard, buf);
-    finish(turn, state, told)
+    let head = head_of(state);
+    hear(head, state, heard, buf, told)
 }
 
 #[no_mangle]
@@ -162,17 +213,16 @@ pub extern "C" fn koy_responder_answer(
 ) -> u8
     ensures { λ r. ⌜ record { code = r; told = now (told .exit); state = now (state .exit); buffer = now (buf .exit) } ≡ koyResponderAnswer (now (state .entry)) (now (reply .entry)) (now (buf .entry)) (now (told .entry)) ⌝ }
 {
-    let bytes = *state;
-    let responder = unpack(bytes);
-    let turn = responder.answer(reply, buf);
-    finish(turn, state, told)
+    let head = head_of(state);
+    answer(head, state, reply, buf, told)
 }
 
 #[no_mangle]
 pub extern "C" fn koy_responder_restart(state: &mut [u8; 250])
     ensures { λ _. ⌜ now (state .exit) ≡ koyResponderRestart (now (state .entry)) ⌝ }
 {
-    let bytes = *state;
-    let responder = unpack(bytes);
-    pack(responder.restart(), state);
+    let head = head_of(state);
+    let link = head.link;
+    let blank = Responder::from_parts(link, Row::blank());
+    pack(blank, state);
 }

@@ -3,3 +3,5 @@
 pub mod Read
 -- what writing takes and tells
 pub mod Write
+-- what private functions promise each other
+pub mod Leaves

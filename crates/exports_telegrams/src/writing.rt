@@ -2,20 +2,18 @@
 ghost use mathlib.Core.Path.{_≡_};
 ghost use Prim.Native.Nat.{ℕ};
 ghost use mathlib.Core.List.{List, [], _∷_};
-ghost use Rattle.exports_telegrams.specs.Write.{addressNumber, bareCall, headerOf, koyWriteConfirmation, koyWriteData, koyWriteToken, sapOf, writeCall};
+ghost use Rattle.exports_telegrams.specs.Write.{addressNumber, bareCall, koyWriteConfirmation, koyWriteData, koyWriteToken, sapOf, writeCall};
+ghost use Rattle.exports_telegrams.specs.Leaves.{codedHeader};
 ghost use Rattle.telegram_tx.specs.Writing.{shownWriting};
 use crate::reading::ABSENT;
-use codes::FunctionCode;
-use codes::FunctionCodeFound;
 use ground::Address;
-use ground::Refusal;
 use ground::Sap;
 use telegram::AddressOption;
-use telegram::DataTelegramHeader;
 use telegram::SapOption;
+use telegram_tx::CodedHeader;
 use telegram_tx::TelegramTxResponse;
 use telegram_tx::TelegramTxResult;
-use telegram_tx::send_data_telegram;
+use telegram_tx::send_coded_telegram;
 use telegram_tx::send_short_confirmation;
 use telegram_tx::send_token_telegram;
 
@@ -28,17 +26,17 @@ fn sap_of(n: usize) -> SapOption
     SapOption::None
 }
 
-fn header_of(da: u8, sa: u8, dsap: usize, ssap: usize, fc: FunctionCode) -> DataTelegramHeader
-    ensures { λ r. ⌜ r ≡ headerOf da sa dsap ssap fc ⌝ }
+fn header_of(da: u8, sa: u8, dsap: usize, ssap: usize, code: u8) -> CodedHeader
+    ensures { λ r. ⌜ r ≡ codedHeader da sa dsap ssap code ⌝ }
 {
     let d = sap_of(dsap);
     let s = sap_of(ssap);
-    DataTelegramHeader {
+    CodedHeader {
         da: Address(da),
         sa: Address(sa),
         dsap: d,
         ssap: s,
-        fc,
+        code,
     }
 }
 
@@ -88,11 +86,8 @@ pub extern "C" fn koy_write_data(
         ≡ koyWriteData da sa dsap ssap fc (now (pdu .entry)) (now (buf .entry)) (now (told .entry))
         ⌝ }
 {
-    let FunctionCodeFound::Is(code) = FunctionCode::from_byte(fc) else {
-        return Refusal::FunctionCode.number();
-    };
-    let header = header_of(da, sa, dsap, ssap, code);
-    tell(send_data_telegram(header, pdu, buf), told)
+    let header = header_of(da, sa, dsap, ssap, fc);
+    tell(send_coded_telegram(header, pdu, buf), told)
 }
 
 fn code_of(result: TelegramTxResult) -> u8

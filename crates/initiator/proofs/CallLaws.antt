@@ -1,17 +1,20 @@
--- Laws of the calls, one for each case of document 01: what a call comes to where the room and the phase are known.
+-- Laws of the calls, one for each case of document 01: what a call comes to where the room and the phase are known. Last, that a refused
+-- submission gives back the record.
 use Prim.Native.Nat.{ℕ, _+_, _<_, _≤_}
 use mathlib.Core.Bool.{Bool, true, false}
-use mathlib.Core.List.{List}
+use mathlib.Core.List.{List, []}
 use mathlib.Core.Path.{_≡_, _∙_, ap}
 use lib.ListN.{length}
 use borrow.Author.Tests.{lt-ltb, le-ltb}
 use Rattle.ground.specs.Pick.{if}
-use Rattle.initiator.specs.Calls.{sendsOpening, sendsOrder, endsOf, keeping, notSent, unknown, wrongOrder, submitIn, submitOf, silenceIn, silenceOf, hearIn, hearOf, restartIn, restartOf}
+use Rattle.initiator.specs.Calls.{inPhase, sendsOpening, sendsOrder, endsOf, keeping, notSent, unknown, wrongOrder, submitIn, submitOf, silenceIn, silenceOf, hearIn, hearOf, restartIn, restartOf}
+use Rattle.initiator.specs.Records.{orderOf}
 use Rattle.initiator.specs.declared.state.Initiator.{Initiator}
 use Rattle.initiator.specs.declared.state.Phase.{Phase}
 use Rattle.initiator.specs.declared.state.Phase.the-variants.{Closed, Ready, Opening, Order}
 use Rattle.link_rules.specs.Rules.{room}
-use Rattle.link_telegrams.proofs.TurnLaws.{short-of-room, with-room}
+use Rattle.link_telegrams.proofs.TurnLaws.{short-of-room, with-room, Stays, same-stays, picked-stays, writes-stays, room-stays}
+use Rattle.link_telegrams.specs.Headers.{openingHeader, orderHeader}
 use Rattle.link_telegrams.specs.Heard.{replyHeardOf}
 use Rattle.link_telegrams.specs.Turns.{tells, refusing}
 use Rattle.link_telegrams.specs.declared.headers.Bit.{Bit}
@@ -73,3 +76,18 @@ module _ (i : Initiator) (s buf : List ℕ) where
 pub restart-at : (i : Initiator) {p : Phase} → i .phase ≡ p → restartOf i ≡ restartIn p i
 unfolding restartOf
 restart-at i e = ap (λ (p : Phase). restartIn p i) e
+
+module _ (i : Initiator) (q buf : List ℕ) where
+  submit-in-stays : (p : Phase) → Stays i (submitIn p i q buf)
+  submit-in-stays Closed =
+      picked-stays i (wrongOrder q) (refusing 16 i buf) (sendsOpening i (keeping i q) 1 buf) (same-stays i _ buf)
+      (writes-stays i (inPhase (keeping i q) (Opening 1)) (openingHeader (i .link)) [] buf)
+  submit-in-stays (Ready b) =
+      picked-stays i (wrongOrder q) (refusing 16 i buf) (sendsOrder i (keeping i q) b 1 buf) (same-stays i _ buf)
+      (writes-stays i (inPhase (keeping i q) (Order b 1)) (orderHeader (i .link) b) (orderOf (keeping i q)) buf)
+  submit-in-stays (Opening k) = same-stays i _ buf
+  submit-in-stays (Order b k) = same-stays i _ buf
+
+  pub submit-stays : Stays i (submitOf i q buf)
+  unfolding submitOf
+  submit-stays = room-stays i buf (submitIn (i .phase) i q buf) (submit-in-stays (i .phase))

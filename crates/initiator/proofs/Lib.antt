@@ -3,6 +3,8 @@
 pub mod CallLaws
 -- the pending order in its array
 pub mod OrderLaws
+-- a call on a head and a lent order
+pub mod HeadLaws
 -- the maker, case by case
 pub mod RecordLaws
 -- what is shown of an answer tells its values apart

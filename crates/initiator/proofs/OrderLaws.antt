@@ -3,6 +3,7 @@ use Prim.Native.Nat.{ℕ, _<_, _≤_}
 use mathlib.Core.Bool.{Bool, true, false}
 use mathlib.Core.List.{List}
 use mathlib.Core.Path.{_≡_, refl}
+use native.Mathlib.Omega.{arith}
 use lib.Dec.{leb, lit≤}
 use lib.ListN.{length}
 use borrow.Author.Tests.{le-leb, lt-leb, leb-true}
@@ -33,5 +34,5 @@ pub order-small : (q : List ℕ) → wrongOrder q ≡ false → length q ≤ lon
 order-small q e = length-small (length q) e
 
 -- The order that is kept is the one that was submitted.
-pub kept-order : (i : Initiator) (q : List ℕ) → length (i .order) ≡ longest → length q ≤ longest → orderOf (keeping i q) ≡ q
-kept-order i q l h = rw (le-leb _ _ h) (copied-front (i .order) q (rw l h))
+pub kept-order : (i : Initiator) (q : List ℕ) → longest ≤ length (i .order) → length q ≤ longest → orderOf (keeping i q) ≡ q
+kept-order i q l h = rw (le-leb _ _ h) (copied-front (i .order) q (omega (arith, l, h)))

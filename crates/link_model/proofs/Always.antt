@@ -10,7 +10,7 @@ use Rattle.link_model.specs.Initiator.{InitiatorTurn, Phase, closed, rea
 use Rattle.demand_3.specs.Line.{State, Call, initiatorMade, submits, silent, initiatorHears, initiatorRestarts, responderMade, responderHears, answers, responderRestarts, closedBy, step, run, start, Lawful, Obeys}
 use Rattle.link_model.specs.Ours.{ours}
 use Rattle.link_model.proofs.Invariant.{empty, noneC, Inv, atRest}
-use Rattle.link_model.proofs.Steps.{Rule, hushed, submit-keeps, silence-keeps, restart-keeps, made-keeps, answer-keeps, forget-keeps, row-made-keeps, heard-keeps, attended-keeps}
+use Rattle.link_model.proofs.Steps.{Rule, hushed, submit-keeps, silence-keeps, restart-keeps, made-keeps, answer-keeps, row-made-keeps, heard-keeps, attended-keeps}
 
 -- after a turn of the initiator the link is closed and open by the rule, and the tries are the same
 abbrev Held : ℕ → Bool → InitiatorTurn → Type 0
@@ -82,7 +82,7 @@ step-keeps s (responderHears true m) v y = record { ends = attended-keeps m (v .
 step-keeps s (responderHears false m) v y = record { ends = hushed (v .ends); rule = v .rule; tries = v .tries }
 step-keeps s (answers true p) v y = record { ends = answer-keeps p (v .ends); rule = v .rule; tries = v .tries }
 step-keeps s (answers false p) v y = record { ends = hushed (v .ends); rule = v .rule; tries = v .tries }
-step-keeps s responderRestarts v y = record { ends = forget-keeps (v .ends); rule = v .rule; tries = v .tries }
+step-keeps s responderRestarts v y = record { ends = row-made-keeps (v .ends); rule = v .rule; tries = v .tries }
 
 run-keeps : (cs : List (Call ours)) (s : State ours) → InvOf s → Obeys ours s cs → InvOf (run ours s cs)
 run-keeps [] s v o = v

@@ -265,6 +265,8 @@ module _ (C : Codec) (F : Faithful C) where
         sameEnough = λ room. refl;
         sameAnswerable = λ p e. refl;
         enoughAnswer = λ room p a b. ap₂ _&&_ a b;
+        sameOrderable = λ q e. refl;
+        enoughSubmit = λ room q a b. ap₂ _&&_ a b;
         madeInitiator = λ n p. refl;
         madeSound = λ n p. tt;
         submits =

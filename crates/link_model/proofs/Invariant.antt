@@ -26,6 +26,19 @@ pub data Once : Report → Given → ℕ → ℕ → Type 0 where
   shown : {p : Bytes} {o n : ℕ} → Once (ended (confirmed p (suc n))) (made p) o (suc n)
   lostOnce : {g : Given} {o n : ℕ} → Once (ended (unknown (suc n))) g o (suc n)
 
+-- an order that the head end has given up: left pending by a record made anew, or reported unknown by a restart
+pub data Gone : Report → ℕ → ℕ → Type 0 where
+  goneLeft : {o n : ℕ} → Gone abandoned o n
+  goneLost : {o n : ℕ} → Gone (ended (unknown (suc n))) o (suc n)
+
+pub gone-never : {r : Report} {o n : ℕ} → Gone r o n → Never r o n
+gone-never goneLeft = left
+gone-never goneLost = lost
+
+pub gone-once : {r : Report} {g : Given} {o n : ℕ} → Gone r o n → Once r g o n
+gone-once goneLeft = leftOnce
+gone-once goneLost = lostOnce
+
 -- the orders, and with them all that was handed up
 pub data Kept : List Entry → List Bytes → Type 0 where
   empty : Kept [] []
@@ -87,15 +100,15 @@ pub data Inv : Phase → Row → Option Message → History → Bool → Type 0 
   atRest :
       {r : Row} {l : Option Message} {es : List Entry} {cs : List Bytes} {u : Bool}
       → Kept es cs → ClosedLine l → Inv closed r l (history es cs false) u
-  -- the same, with the order in flight that was pending before the record was made anew: not handed up, or once
+  -- the same, with the order in flight that was pending before a restart or a record made anew: not handed up, or once
   leftUnserved :
-      {b : Bit} {q : Bytes} {o n : ℕ} {r : Row} {es : List Entry} {cs : List Bytes} {u : Bool}
-      → Kept es cs → Ready false b r
-      → Inv closed r (some (order b q)) (history (entry q [] abandoned o n ∷ es) cs false) u
+      {b : Bit} {q : Bytes} {t : Report} {o n : ℕ} {r : Row} {es : List Entry} {cs : List Bytes} {u : Bool}
+      → Gone t o n → Kept es cs → Ready false b r
+      → Inv closed r (some (order b q)) (history (entry q [] t o n ∷ es) cs false) u
   leftServed :
-      {b : Bit} {q : Bytes} {g : Given} {o n : ℕ} {r : Row} {es : List Entry} {cs : List Bytes} {u : Bool}
-      → Kept es cs → Served false b r g
-      → Inv closed r (some (order b q)) (history (entry q (handUp q g ∷ []) abandoned o n ∷ es) (q ∷ cs) false) u
+      {b : Bit} {q : Bytes} {g : Given} {t : Report} {o n : ℕ} {r : Row} {es : List Entry} {cs : List Bytes} {u : Bool}
+      → Gone t o n → Kept es cs → Served false b r g
+      → Inv closed r (some (order b q)) (history (entry q (handUp q g ∷ []) t o n ∷ es) (q ∷ cs) false) u
   -- nothing pending, open
   atReady :
       {b : Bit} {r : Row} {l : Option Message} {es : List Entry} {cs : List Bytes} {u : Bool}

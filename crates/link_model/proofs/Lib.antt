@@ -8,7 +8,7 @@ pub mod Steps
 pub mod Always
 -- from it the clauses about what has happened
 pub mod Safety
--- from it the last sentence
+-- from it the last sentence, and that orders are taken
 pub mod Going
 pub mod Liveness
 -- demand 3 of our ends on messages, and over any encoding that gives back what was put

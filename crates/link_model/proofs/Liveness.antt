@@ -1,6 +1,6 @@
 -- Our two ends keep the last sentence of demand 3. Reported silence writes the try again as long as one is left
 -- (`Trying`). The try that passes then opens the link, or has the order handed up and answered, or its held reply
--- repeated.
+-- repeated. At the end: with none pending an order is taken.
 use Prim.Native.Nat.{ℕ, suc, _+_, _≤_, _<_}
 use native.Mathlib.Omega.{arith}
 use lib.Dec.{eqb}
@@ -13,15 +13,15 @@ use mathlib.Core.Path.{_≡_, refl, sym, _∙_, subst⁻¹}
 use Rattle.ground.specs.Pick.{if}
 use Rattle.link_model.specs.Messages.{Bit, low, high, Message, opening, order}
 use Rattle.demand_3.specs.Turns.{Bytes, confirmed}
-use Rattle.link_model.specs.Initiator.{Phase, openingPhase, orderPhase, silenceIn}
+use Rattle.link_model.specs.Initiator.{Phase, openingPhase, orderPhase, submitIn, silenceIn}
 use Rattle.link_model.specs.Responder.{Row}
 use Rattle.demand_3.specs.History.{made, dropped, ended, Entry, History, openingSent, orderSent, counted, settledIn}
 use Rattle.demand_3.specs.Line.{State, Call, submits, silent, sentOf, initiatorDone, step, run, start, Obeys}
 use Rattle.demand_3.specs.Safe.{entriesOf}
-use Rattle.demand_3.specs.Live.{reportAt, Accepted, Confirmed, Flight, theTry, Wide, Prompt, passes, Tried, passed, again, Phase as Reached, Phases, opensFirst, orderAtOnce, Live}
+use Rattle.demand_3.specs.Live.{reportAt, anyPending, Takes, Accepted, Confirmed, Flight, theTry, Wide, Prompt, passes, Tried, passed, again, Phase as Reached, Phases, opensFirst, orderAtOnce, Live}
 use Rattle.link_model.specs.Ours.{ours}
 use Rattle.link_model.proofs.Ignored.{FromInitiator}
-use Rattle.link_model.proofs.Invariant.{left, leftOnce, never, once, justOpened, heldHigh, heldLow, owing, holding, openingA, orderO, orderS, Inv, atRest, leftUnserved, leftServed, atReady, atAsking, unserved, served}
+use Rattle.link_model.proofs.Invariant.{gone-never, gone-once, never, once, justOpened, heldHigh, heldLow, owing, holding, openingA, orderO, orderS, Inv, atRest, leftUnserved, leftServed, atReady, atAsking, unserved, served}
 use Rattle.link_model.proofs.Kept.{kept-settled}
 use Rattle.link_model.proofs.Steps.{Rule}
 use Rattle.link_model.proofs.Always.{InvOf, always}
@@ -186,10 +186,10 @@ live-for :
     true q z
 live-for n true q z y (atRest k l) a e f = live-closed (tries (atAsking k openingA) tt refl) f
 live-for n false q z y (atRest k l) a e f = absurd (false≢true y)
-live-for n true q z y (leftUnserved k w) a e f = live-closed (tries (atAsking (never left k) openingA) tt refl) f
-live-for n false q z y (leftUnserved k w) a e f = absurd (false≢true y)
-live-for n true q z y (leftServed k w) a e f = live-closed (tries (atAsking (once leftOnce k) openingA) tt refl) f
-live-for n false q z y (leftServed k w) a e f = absurd (false≢true y)
+live-for n true q z y (leftUnserved g k w) a e f = live-closed (tries (atAsking (never (gone-never g) k) openingA) tt refl) f
+live-for n false q z y (leftUnserved g k w) a e f = absurd (false≢true y)
+live-for n true q z y (leftServed g k w) a e f = live-closed (tries (atAsking (once (gone-once g) k) openingA) tt refl) f
+live-for n false q z y (leftServed g k w) a e f = absurd (false≢true y)
 live-for n true q z y (atReady k w l) a e f = absurd (true≢false y)
 live-for n false {u = false} q z y (atReady k w l) a e f = absurd (false≢true e)
 live-for n false {u = true} q z y (atReady k justOpened l) a e f = live-open (tries (unserved k justOpened orderO) tt refl) f
@@ -220,3 +220,22 @@ live-at s v false q z = λ a u f. absurd a
 
 pub ours-live : (n : ℕ) (cs : List (Call ours)) → Obeys ours (start ours n) cs → Live ours (run ours (start ours n) cs)
 ours-live n cs o = live-at (run ours (start ours n) cs) (always n cs o)
+
+-- with none pending, an order is taken wherever the initiator stands
+takes-for :
+    (n : ℕ) {p : Phase} {r : Row} {l : Option Message} {h : History} {u : Bool} (q : Bytes) → Inv p r l h u
+    → anyPending (entriesOf h) ≡ false → Accepted (submitIn n p q .says)
+takes-for n q (atRest k l) e = tt
+takes-for n q (leftUnserved g k y) e = tt
+takes-for n q (leftServed g k y) e = tt
+takes-for n q (atReady k y l) e = tt
+takes-for n q (atAsking k l) e = absurd (true≢false e)
+takes-for n q (unserved k y l) e = absurd (true≢false e)
+takes-for n q (served k y l) e = absurd (true≢false e)
+
+takes-at : (s : State ours) → InvOf s → Takes ours s
+takes-at s v true q a b e = takes-for (s .initiator .tries) q (v .ends) e
+takes-at s v false q a b e = absurd (false≢true a)
+
+pub ours-takes : (n : ℕ) (cs : List (Call ours)) → Obeys ours (start ours n) cs → Takes ours (run ours (start ours n) cs)
+ours-takes n cs o = takes-at (run ours (start ours n) cs) (always n cs o)

@@ -55,6 +55,14 @@ pub an-old-debt-is-dropped :
     ((2 ∷ []) ∷ (1 ∷ []) ∷ []) false
 an-old-debt-is-dropped = refl
 
+-- The telegram heard after a restart: the order is in flight when the head end restarts and reports unknown; the cabinet hears
+-- it then and carries it out once, and its late reply is no second outcome.
+pub an-order-is-heard-after-the-restart :
+    ends isOpening ourInitiator ourResponder 2
+    (order (1 ∷ []) ∷ toCabinet ∷ toHead ∷ headRestarts ∷ toCabinet ∷ answer (7 ∷ []) ∷ toHead ∷ []) .past
+    ≡ history (entry (1 ∷ []) (handUp (1 ∷ []) (made (7 ∷ [])) ∷ []) (ended (unknown 1)) 1 1 ∷ []) ((1 ∷ []) ∷ []) false
+an-order-is-heard-after-the-restart = refl
+
 -- all tries of an opening are lost: not sent, with the telegrams written
 pub a-dead-line-sends-nothing :
     ends isOpening ourInitiator ourResponder 2 (order (1 ∷ []) ∷ silence ∷ silence ∷ []) .past

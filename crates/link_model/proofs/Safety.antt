@@ -11,14 +11,14 @@ use Rattle.demand_3.specs.History.{History}
 use Rattle.demand_3.specs.Line.{Call, run, start, Obeys}
 use Rattle.demand_3.specs.Safe.{Safe}
 use Rattle.link_model.specs.Ours.{ours}
-use Rattle.link_model.proofs.Invariant.{waits, left, waited, leftOnce, never, once, Inv, atRest, leftUnserved, leftServed, atReady, atAsking, unserved, served}
+use Rattle.link_model.proofs.Invariant.{gone-never, gone-once, waits, waited, never, once, Inv, atRest, leftUnserved, leftServed, atReady, atAsking, unserved, served}
 use Rattle.link_model.proofs.Kept.{kept-safe}
 use Rattle.link_model.proofs.Always.{always}
 
 inv-safe : {p : Phase} {r : Row} {l : Option Message} {h : History} {u : Bool} → Inv p r l h u → Safe h
 inv-safe (atRest k l) = kept-safe k
-inv-safe (leftUnserved k y) = kept-safe (never left k)
-inv-safe (leftServed k y) = kept-safe (once leftOnce k)
+inv-safe (leftUnserved g k y) = kept-safe (never (gone-never g) k)
+inv-safe (leftServed g k y) = kept-safe (once (gone-once g) k)
 inv-safe (atReady k y l) = kept-safe k
 inv-safe (atAsking k l) = kept-safe (never waits k)
 inv-safe (unserved k y l) = kept-safe (never waits k)

@@ -13,7 +13,7 @@ use Rattle.demand_3.specs.History.{nothingSent, openingSent, orderSent}
 use Rattle.demand_3.specs.Line.{Pair, State, Call, initiatorMade, submits, silent, initiatorHears, initiatorRestarts, responderMade, responderHears, answers, responderRestarts, sentOf, step, start, run, Heard, inFlight, Obeys}
 use Rattle.link_rules.specs.Rules.{Permitted}
 use Rattle.demand_3.specs.Safe.{Safe, entriesOf}
-use Rattle.demand_3.specs.Live.{reportAt, Accepted, Wide, Prompt, Silent, theTry, answersAtOnce, reachesResponder, passes, Between, over, silentShort, submitsBeside, initiatorMisses, responderAttends, responderServes, Tried, passed, again, Phase, Phases, opensFirst, orderAtOnce, saysNothing}
+use Rattle.demand_3.specs.Live.{reportAt, anyPending, Accepted, Wide, Prompt, Silent, theTry, answersAtOnce, reachesResponder, passes, Between, over, silentShort, submitsBeside, initiatorMisses, responderAttends, responderServes, Tried, passed, again, Phase, Phases, opensFirst, orderAtOnce, saysNothing}
 use Rattle.demand_3.specs.Demand.{Demand}
 use Rattle.link_model.specs.Ours.{AnyInitiator, AnyResponder, linked}
 use Rattle.link_model.proofs.Kept.{IsConfirmed}
@@ -112,6 +112,12 @@ module _ {M : Type 0} (first : M → Bool) (h : AnyInitiator M) (c : AnyResponde
   -- a scene after which a clause of the first sentence fails
   pub unsafe : (n : ℕ) → Permitted n → (ds : List Doing) → (Safe (ends n ds .past) → ⊥) → Demand P → ⊥
   unsafe n p ds bad d = bad (d .safe n p (scene (start P n) ds) (scene-obeys (start P n) ds))
+
+  -- a scene after which an order is not taken, though none is pending
+  pub untaken :
+      (n : ℕ) → Permitted n → (ds : List Doing) (q : Bytes) → anyPending (entriesOf (ends n ds .past)) ≡ false
+      → (Accepted (h .submit (ends n ds .initiator) true q .says) → ⊥) → Demand P → ⊥
+  untaken n p ds q e bad d = bad (d .takes n p (scene (start P n) ds) (scene-obeys (start P n) ds) true q refl refl e)
 
   abbrev wide : Wide P
   wide = record { room = true; isEnough = refl }

@@ -9,9 +9,9 @@ use Rattle.demand_3.specs.Turns.{Bytes, ignoring}
 use Rattle.link_model.specs.Initiator.{Initiator, InitiatorTurn, Phase, closed, ready, openingPhase, orderPhase, submitIn, silenceIn, hearIn, hearOf, restartIn}
 use Rattle.link_model.specs.Responder.{Row, RowTurn, blank, opened, owes, holds, rowHears, rowAnswers}
 use Rattle.demand_3.specs.History.{Given, made, dropped, Entry, History, history, submitted, counted, reported, leftPending, noted, answered, openingHeard}
-use Rattle.demand_3.specs.Line.{begun, sentOf, Heard, inFlight, stray}
+use Rattle.demand_3.specs.Line.{begun, sentOf, stillOr, Heard, inFlight, stray}
 use Rattle.link_model.specs.Ours.{ours}
-use Rattle.link_model.proofs.Invariant.{waits, left, unsent, lost, waited, leftOnce, shown, lostOnce, Kept, empty, never, once, Ready, blankRow, justOpened, heldHigh, heldLow, Served, forgotten, owing, holding, ClosedLine, noneC, openingC, okC, replyC, noneR, replyR, noneA, openingA, okA, replyA, noneO, orderO, noneS, orderS, replyS, Inv, atRest, leftUnserved, leftServed, atReady, atAsking, unserved, served}
+use Rattle.link_model.proofs.Invariant.{Gone, goneLeft, goneLost, gone-never, gone-once, waits, left, unsent, lost, waited, leftOnce, shown, lostOnce, Kept, empty, never, once, Ready, blankRow, justOpened, heldHigh, heldLow, Served, forgotten, owing, holding, ClosedLine, noneC, openingC, okC, replyC, noneR, replyR, noneA, openingA, okA, replyA, noneO, orderO, noneS, orderS, replyS, Inv, atRest, leftUnserved, leftServed, atReady, atAsking, unserved, served}
 use Rattle.link_model.proofs.Kept.{kept-settled}
 
 -- the invariant after a call of the initiator, and after one of the responder
@@ -24,8 +24,8 @@ AfterResponder p h u t = Inv p (t .next) (t .writes) (noted (t .says) h) u
 -- a call that does nothing, or is refused, empties the line
 pub hushed : {p : Phase} {r : Row} {l : Option Message} {h : History} {u : Bool} → Inv p r l h u → Inv p r none h u
 hushed (atRest k l) = atRest k noneC
-hushed (leftUnserved k y) = atRest (never left k) noneC
-hushed (leftServed k y) = atRest (once leftOnce k) noneC
+hushed (leftUnserved g k y) = atRest (never (gone-never g) k) noneC
+hushed (leftServed g k y) = atRest (once (gone-once g) k) noneC
 hushed (atReady k y l) = atReady k y noneR
 hushed (atAsking k l) = atAsking k noneA
 hushed (unserved k y l) = unserved k y noneO
@@ -43,8 +43,8 @@ pub submit-keeps :
     (n : ℕ) (q : Bytes) (c : Bool) {p : Phase} {r : Row} {l : Option Message} {h : History} {u : Bool} → Rule p c → Inv p r l h u
     → AfterInitiator r (submitted (submitIn n p q .says) q h) (begun (submitIn n p q .says) c u) (submitIn n p q)
 submit-keeps n q c e (atRest k l) = atAsking k openingA
-submit-keeps n q c e (leftUnserved k y) = atAsking (never left k) openingA
-submit-keeps n q c e (leftServed k y) = atAsking (once leftOnce k) openingA
+submit-keeps n q c e (leftUnserved g k y) = atAsking (never (gone-never g) k) openingA
+submit-keeps n q c e (leftServed g k y) = atAsking (once (gone-once g) k) openingA
 submit-keeps n q true e (atReady k y l) = absurd (true≢false e)
 submit-keeps n q false e (atReady k y l) = unserved k y orderO
 submit-keeps n q c e (atAsking k l) = atAsking k noneA
@@ -55,8 +55,8 @@ pub silence-keeps :
     (more : Bool) (n : ℕ) {p : Phase} {r : Row} {l : Option Message} {h : History} {u : Bool} → Inv p r l h u
     → AfterInitiator r h u (silenceIn more n p)
 silence-keeps more n (atRest k l) = atRest k noneC
-silence-keeps more n (leftUnserved k y) = atRest (never left k) noneC
-silence-keeps more n (leftServed k y) = atRest (once leftOnce k) noneC
+silence-keeps more n (leftUnserved g k y) = atRest (never (gone-never g) k) noneC
+silence-keeps more n (leftServed g k y) = atRest (once (gone-once g) k) noneC
 silence-keeps more n (atReady k y l) = atReady k y noneR
 silence-keeps true n (atAsking k l) = atAsking k openingA
 silence-keeps false n (atAsking k l) = atRest (never unsent k) noneC
@@ -75,8 +75,8 @@ pub hear-keeps :
     (n : ℕ) (m : Message) {p : Phase} {r : Row} {h : History} {u : Bool} → Inv p r (some m) h u
     → AfterInitiator r h u (hearIn n p m)
 hear-keeps n m (atRest k l) = atRest k noneC
-hear-keeps n m (leftUnserved k y) = atRest (never left k) noneC
-hear-keeps n m (leftServed k y) = atRest (once leftOnce k) noneC
+hear-keeps n m (leftUnserved g k y) = atRest (never (gone-never g) k) noneC
+hear-keeps n m (leftServed g k y) = atRest (once (gone-once g) k) noneC
 hear-keeps n m (atReady k y l) = atReady k y noneR
 hear-keeps n opening (atAsking k openingA) = atAsking k noneA
 hear-keeps n ok (atAsking k (okA y)) = unserved k y orderO
@@ -84,17 +84,6 @@ hear-keeps n (reply p) (atAsking k replyA) = atAsking k noneA
 hear-keeps n (order b q) (unserved k y orderO) = unserved k y noneO
 hear-keeps n (order b q) (served k y orderS) = served k y noneS
 hear-keeps n (reply p) (served k y replyS) = atReady (once shown k) (next-ready y) noneR
-
-pub restart-keeps :
-    (n : ℕ) {p : Phase} {r : Row} {l : Option Message} {h : History} {u : Bool} → Inv p r l h u
-    → AfterInitiator r h false (restartIn n p)
-restart-keeps n (atRest k l) = atRest k noneC
-restart-keeps n (leftUnserved k y) = atRest (never left k) noneC
-restart-keeps n (leftServed k y) = atRest (once leftOnce k) noneC
-restart-keeps n (atReady k y l) = atRest k noneC
-restart-keeps n (atAsking k l) = atRest (never unsent k) noneC
-restart-keeps n (unserved k y l) = atRest (never lost k) noneC
-restart-keeps n (served k y l) = atRest (once lostOnce k) noneC
 
 -- an end has restarted: nothing is said of a stored bit any more
 ready-broken : {u : Bool} {b : Bit} {r : Row} → Ready u b r → Ready false b r
@@ -125,8 +114,10 @@ pub made-keeps :
     {p : Phase} {r : Row} {l : Option Message} {h : History} {u : Bool} → Inv p r l h u
     → Inv closed r l (leftPending h) false
 made-keeps (atRest k l) = rest-left k l
-made-keeps (leftUnserved k y) = leftUnserved k y
-made-keeps (leftServed k y) = leftServed k y
+made-keeps (leftUnserved goneLeft k y) = leftUnserved goneLeft k y
+made-keeps (leftUnserved goneLost k y) = leftUnserved goneLost k y
+made-keeps (leftServed goneLeft k y) = leftServed goneLeft k y
+made-keeps (leftServed goneLost k y) = leftServed goneLost k y
 made-keeps (atReady k y noneR) = rest-left k noneC
 made-keeps (atReady k y replyR) = rest-left k replyC
 made-keeps (atAsking k noneA) = atRest (never left k) noneC
@@ -134,10 +125,30 @@ made-keeps (atAsking k openingA) = atRest (never left k) openingC
 made-keeps (atAsking k (okA y)) = atRest (never left k) okC
 made-keeps (atAsking k replyA) = atRest (never left k) replyC
 made-keeps (unserved k y noneO) = atRest (never left k) noneC
-made-keeps (unserved k y orderO) = leftUnserved k (ready-broken y)
+made-keeps (unserved k y orderO) = leftUnserved goneLeft k (ready-broken y)
 made-keeps (served k y noneS) = atRest (once leftOnce k) noneC
-made-keeps (served k y orderS) = leftServed k (served-broken y)
+made-keeps (served k y orderS) = leftServed goneLeft k (served-broken y)
 made-keeps (served k y replyS) = atRest (once leftOnce k) replyC
+
+-- a restart: as a record made anew, but the pending order is reported
+pub restart-keeps :
+    (n : ℕ) {p : Phase} {r : Row} {l : Option Message} {h : History} {u : Bool} → Inv p r l h u
+    → Inv (restartIn n p .next .phase) r (stillOr (restartIn n p .writes) l)
+    (reported (restartIn n p .says) (counted (sentOf ours (restartIn n p .writes)) h)) false
+restart-keeps n (atRest k l) = atRest k l
+restart-keeps n (leftUnserved g k y) = leftUnserved g k y
+restart-keeps n (leftServed g k y) = leftServed g k y
+restart-keeps n (atReady k y noneR) = atRest k noneC
+restart-keeps n (atReady k y replyR) = atRest k replyC
+restart-keeps n (atAsking k noneA) = atRest (never unsent k) noneC
+restart-keeps n (atAsking k openingA) = atRest (never unsent k) openingC
+restart-keeps n (atAsking k (okA y)) = atRest (never unsent k) okC
+restart-keeps n (atAsking k replyA) = atRest (never unsent k) replyC
+restart-keeps n (unserved k y noneO) = atRest (never lost k) noneC
+restart-keeps n (unserved k y orderO) = leftUnserved goneLost k (ready-broken y)
+restart-keeps n (served k y noneS) = atRest (once lostOnce k) noneC
+restart-keeps n (served k y orderS) = leftServed goneLost k (served-broken y)
+restart-keeps n (served k y replyS) = atRest (once lostOnce k) replyC
 
 pub attend-keeps :
     (m : Message) {p : Phase} {r : Row} {h : History} {u : Bool} → Inv p r (some m) h u
@@ -145,15 +156,15 @@ pub attend-keeps :
 attend-keeps opening (atRest k openingC) = atRest (kept-settled dropped k) okC
 attend-keeps ok (atRest k okC) = atRest k noneC
 attend-keeps (reply p) (atRest k replyC) = atRest k noneC
-attend-keeps (order b q) (leftUnserved k blankRow) = atRest (never left k) noneC
-attend-keeps (order b q) (leftUnserved k justOpened) = atRest (once leftOnce k) noneC
-attend-keeps (order b q) (leftUnserved k heldHigh) = atRest (once leftOnce k) noneC
-attend-keeps (order b q) (leftUnserved k heldLow) = atRest (once leftOnce k) noneC
-attend-keeps (order b q) (leftServed k forgotten) = atRest (once leftOnce k) noneC
-attend-keeps (order low q) (leftServed k owing) = atRest (once leftOnce k) noneC
-attend-keeps (order high q) (leftServed k owing) = atRest (once leftOnce k) noneC
-attend-keeps (order low q) (leftServed k holding) = atRest (once leftOnce k) replyC
-attend-keeps (order high q) (leftServed k holding) = atRest (once leftOnce k) replyC
+attend-keeps (order b q) (leftUnserved g k blankRow) = atRest (never (gone-never g) k) noneC
+attend-keeps (order b q) (leftUnserved g k justOpened) = atRest (once (gone-once g) k) noneC
+attend-keeps (order b q) (leftUnserved g k heldHigh) = atRest (once (gone-once g) k) noneC
+attend-keeps (order b q) (leftUnserved g k heldLow) = atRest (once (gone-once g) k) noneC
+attend-keeps (order b q) (leftServed g k forgotten) = atRest (once (gone-once g) k) noneC
+attend-keeps (order low q) (leftServed g k owing) = atRest (once (gone-once g) k) noneC
+attend-keeps (order high q) (leftServed g k owing) = atRest (once (gone-once g) k) noneC
+attend-keeps (order low q) (leftServed g k holding) = atRest (once (gone-once g) k) replyC
+attend-keeps (order high q) (leftServed g k holding) = atRest (once (gone-once g) k) replyC
 attend-keeps (reply p) (atReady k y replyR) = atReady k y noneR
 attend-keeps opening (atAsking k openingA) = atAsking (kept-settled dropped k) (okA justOpened)
 attend-keeps ok (atAsking k (okA y)) = atAsking k noneA
@@ -177,13 +188,13 @@ answer-keeps a (atRest {r = blank} k l) = atRest k noneC
 answer-keeps a (atRest {r = opened} k l) = atRest k noneC
 answer-keeps a (atRest {r = owes b} k l) = atRest (kept-settled (made a) k) replyC
 answer-keeps a (atRest {r = holds b p} k l) = atRest k noneC
-answer-keeps a (leftUnserved k blankRow) = atRest (never left k) noneC
-answer-keeps a (leftUnserved k justOpened) = atRest (never left k) noneC
-answer-keeps a (leftUnserved k heldHigh) = atRest (never left k) noneC
-answer-keeps a (leftUnserved k heldLow) = atRest (never left k) noneC
-answer-keeps a (leftServed k forgotten) = atRest (once leftOnce k) noneC
-answer-keeps a (leftServed k owing) = atRest (once leftOnce (kept-settled (made a) k)) replyC
-answer-keeps a (leftServed k holding) = atRest (once leftOnce k) noneC
+answer-keeps a (leftUnserved g k blankRow) = atRest (never (gone-never g) k) noneC
+answer-keeps a (leftUnserved g k justOpened) = atRest (never (gone-never g) k) noneC
+answer-keeps a (leftUnserved g k heldHigh) = atRest (never (gone-never g) k) noneC
+answer-keeps a (leftUnserved g k heldLow) = atRest (never (gone-never g) k) noneC
+answer-keeps a (leftServed g k forgotten) = atRest (once (gone-once g) k) noneC
+answer-keeps a (leftServed g k owing) = atRest (once (gone-once g) (kept-settled (made a) k)) replyC
+answer-keeps a (leftServed g k holding) = atRest (once (gone-once g) k) noneC
 answer-keeps a (atReady k blankRow l) = atReady k blankRow noneR
 answer-keeps a (atReady k justOpened l) = atReady k justOpened noneR
 answer-keeps a (atReady k heldHigh l) = atReady k heldHigh noneR
@@ -200,21 +211,11 @@ answer-keeps a (served k forgotten l) = served k forgotten noneS
 answer-keeps a (served k owing l) = served (kept-settled (made a) k) holding replyS
 answer-keeps a (served k holding l) = served k holding noneS
 
-pub forget-keeps :
-    {p : Phase} {r : Row} {l : Option Message} {h : History} {u : Bool} → Inv p r l h u → Inv p blank none h false
-forget-keeps (atRest k l) = atRest k noneC
-forget-keeps (leftUnserved k y) = atRest (never left k) noneC
-forget-keeps (leftServed k y) = atRest (once leftOnce k) noneC
-forget-keeps (atReady k y l) = atReady k blankRow noneR
-forget-keeps (atAsking k l) = atAsking k noneA
-forget-keeps (unserved k y l) = unserved k blankRow noneO
-forget-keeps (served k y l) = served k forgotten noneS
-
 pub row-made-keeps :
     {p : Phase} {r : Row} {l : Option Message} {h : History} {u : Bool} → Inv p r l h u → Inv p blank l h false
 row-made-keeps (atRest k l) = atRest k l
-row-made-keeps (leftUnserved k y) = leftUnserved k blankRow
-row-made-keeps (leftServed k y) = leftServed k forgotten
+row-made-keeps (leftUnserved g k y) = leftUnserved g k blankRow
+row-made-keeps (leftServed g k y) = leftServed g k forgotten
 row-made-keeps (atReady k y l) = atReady k blankRow l
 row-made-keeps (atAsking k noneA) = atAsking k noneA
 row-made-keeps (atAsking k openingA) = atAsking k openingA

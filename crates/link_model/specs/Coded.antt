@@ -68,6 +68,7 @@ coded C =
       Telegram = C .Telegram;
       Room = C .Room;
       enough = C .enough;
+      orderable = C .orderable;
       answerable = C .answerable;
       opens = λ t. isOpening (requestOf (C .toResponder t));
       makeInitiator = newInitiator;

@@ -36,6 +36,7 @@ linked {M} isFirst h c =
       Telegram = M;
       Room = Bool;
       enough = λ room. room;
+      orderable = λ q. true;
       answerable = λ p. true;
       opens = isFirst;
       makeInitiator = h .new;

@@ -17,9 +17,7 @@ use Rattle.codes.specs.declared.function_code.FunctionCode.the-variants.{Reques
 use Rattle.ground.specs.declared.part.Part.{Part}
 use Rattle.codes.specs.declared.request_type.RequestType.the-variants.{SrdLow}
 use Rattle.link_rules.specs.declared.link.Link.{Link}
-use Rattle.link_telegrams.specs.Heard.{isTo, readIn, dataToOf, srdOf, requestIn, requestToOf, requestFrom, requestHeardOf}
-use Rattle.link_telegrams.specs.declared.heard.DataHeard.{DataHeard}
-use Rattle.link_telegrams.specs.declared.heard.DataHeard.the-variants as telegramTo
+use Rattle.link_telegrams.specs.Heard.{DataHeard, dataFrom, noData, isTo, readIn, dataToOf, srdOf, requestIn, requestToOf, requestFrom, requestHeardOf}
 use Rattle.link_telegrams.specs.declared.heard.RequestHeard.{RequestHeard}
 use Rattle.link_telegrams.specs.declared.heard.RequestHeard.the-variants as requestHeard
 use Rattle.link_telegrams.specs.declared.heard.RequestTo.{RequestTo}
@@ -33,8 +31,8 @@ abbrev pub Within : List ℕ → Part → Type 0
 Within s p = p .start + p .len ≤ length s
 
 abbrev DataWithin : List ℕ → DataHeard → Type 0
-DataWithin s (telegramTo.From sa fc pdu) = Within s pdu
-DataWithin s telegramTo.Nothing = Unit {0}
+DataWithin s (dataFrom sa fc pdu) = Within s pdu
+DataWithin s noData = Unit {0}
 
 -- so does the order's, where one is heard
 abbrev pub RequestWithin : List ℕ → RequestHeard → Type 0
@@ -71,10 +69,10 @@ module _ (s : List ℕ) where
   srd-within fcb.Inactive pdu h = tt
 
   in-within : (d : DataHeard) → DataWithin s d → ToWithin s (requestIn d)
-  in-within (telegramTo.From sa (Request f req) pdu) h =
+  in-within (dataFrom sa (Request f req) pdu) h =
       picked (ToWithin s) (eqb (requestNumber req) (requestNumber SrdLow)) (λ e. srd-within f pdu h) (λ e. tt)
-  in-within (telegramTo.From sa (Response state status) pdu) h = tt
-  in-within telegramTo.Nothing h = tt
+  in-within (dataFrom sa (Response state status) pdu) h = tt
+  in-within noData h = tt
 
   pub request-to-within : (own : Address) → ToWithin s (requestToOf own s)
   unfolding requestToOf dataToOf

@@ -5,7 +5,8 @@ pub mod WrittenLaws
 pub mod TurnLaws
 -- an order that is heard lies within the heard bytes
 pub mod HeardLaws
--- what heard bytes are, case by case
+-- what heard bytes are, case by case: on their frame, and by the code's byte
+pub mod PlainLaws
 pub mod HeardCases
 -- the link's bit as a frame count bit
 pub mod BitLaws

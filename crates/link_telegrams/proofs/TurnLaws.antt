@@ -1,8 +1,10 @@
--- Laws of a call of an end, whichever end it is: `short-of-room`, `with-room`, `writes`, `saidBack`, `Keeps`.
+-- Laws of a call of an end, whichever end it is: `short-of-room`, `with-room`, `short-of-lent`, `with-lent`, `writes`, `saidBack`,
+-- `Keeps`, `Stays`.
 use Prim.Native.Nat.{ℕ, _<_, _≤_}
 use mathlib.Core.Bool.{Bool, true, false}
 use mathlib.Core.List.{List}
-use mathlib.Core.Path.{_≡_}
+use mathlib.Core.Path.{_≡_, refl, ap}
+use native.Mathlib.Omega.{arith}
 use lib.Dec.{ltb}
 use lib.ListN.{length}
 use borrow.Author.Tests.{lt-ltb, le-ltb}
@@ -11,8 +13,8 @@ use Rattle.ground.specs.Pick.{if}
 use Rattle.ground.specs.Refusals as refusals
 use Rattle.ground.specs.Refusals.{OrRefused}
 use Rattle.ground.specs.declared.refusal.Refusal.{Refusal}
-use Rattle.link_rules.specs.Rules.{room}
-use Rattle.link_telegrams.specs.Turns.{Said, sent, tells, nothing, refused, Turn, refusing, wrote, writesOf, withRoom}
+use Rattle.link_rules.specs.Rules.{longest, room}
+use Rattle.link_telegrams.specs.Turns.{Said, sent, tells, nothing, refused, Turn, saying, refusing, wrote, writesOf, withRoom, withLent}
 use Rattle.telegram.specs.declared.header.DataTelegramHeader.{DataTelegramHeader}
 use Rattle.telegram_tx.specs.Writing.{writeOf, bufferOf}
 use Rattle.telegram_tx.specs.declared.tx.TelegramTxResponse.{TelegramTxResponse}
@@ -25,6 +27,14 @@ module _ {End Tale : Type 0} (end : End) (buf : List ℕ) (turn : Turn End Tale)
 
   pub with-room : room ≤ length buf → withRoom end buf turn ≡ turn
   with-room h = rw (le-ltb _ _ h)
+
+-- the bytes lent for the order or the held reply
+module _ {End Tale : Type 0} (lent : List ℕ) (end : End) (buf : List ℕ) (turn : Turn End Tale) where
+  pub short-of-lent : length lent < longest → withLent lent end buf turn ≡ refusing 10 end buf
+  short-of-lent h = rw (lt-ltb _ _ h)
+
+  pub with-lent : longest ≤ length lent → withLent lent end buf turn ≡ turn
+  with-lent h = rw (le-ltb _ _ h)
 
 -- ---- a telegram that is written
 
@@ -70,3 +80,39 @@ module _ {End Tale : Type 0} (P : End → Type 0) where
 
     pub room-keeps : (buf : List ℕ) (turn : Turn End Tale) → Keeps P turn → Keeps P (withRoom given buf turn)
     room-keeps buf turn g = picked-keeps (ltb (length buf) room) (refusing 10 given buf) turn (kept _ h) g
+
+-- ---- a refused call gives back the record that it was given
+
+pub record Stays {End Tale : Type 0} (given : End) (turn : Turn End Tale) : Type 0 where
+  pub same : (n : ℕ) → turn .said ≡ refused n → turn .end ≡ given
+
+abbrev isRefused : {Tale : Type 0} → Said Tale → ℕ
+isRefused (sent m) = 0
+isRefused (tells tale) = 0
+isRefused nothing = 0
+isRefused (refused m) = 1
+
+no-refusal : {Tale : Type 0} (said : Said Tale) (n : ℕ) → isRefused said ≡ 0 → said ≡ refused n → ⊥
+no-refusal said n z e = let one : isRefused said ≡ 1 = ap isRefused e in omega (arith, z, one)
+
+module _ {End Tale : Type 0} (given : End) where
+  -- a call that is not refused may leave another record
+  pub taken-stays : (turn : Turn End Tale) → isRefused (turn .said) ≡ 0 → Stays given turn
+  taken-stays turn z = record { same = λ n e. absurd (no-refusal (turn .said) n z e) }
+
+  pub same-stays : (said : Said Tale) (buf : List ℕ) → Stays given (saying said given buf)
+  same-stays said buf = record { same = λ n e. refl }
+
+  pub picked-stays : (t : Bool) (x y : Turn End Tale) → Stays given x → Stays given y → Stays given (if t x y)
+  picked-stays true x y h k = h
+  picked-stays false x y h k = k
+
+  wrote-stays : (o : OrRefused TelegramTxResponse) (next : End) (buf : List ℕ) → Stays {Tale = Tale} given (wrote o given next buf)
+  wrote-stays (refusals.gives response) next buf = taken-stays _ refl
+  wrote-stays (refusals.refused n) next buf = same-stays _ buf
+
+  pub writes-stays : (next : End) (d : DataTelegramHeader) (pdu buf : List ℕ) → Stays {Tale = Tale} given (writesOf given next d pdu buf)
+  writes-stays next d pdu buf = wrote-stays (writeOf d pdu (length buf)) next (bufferOf d pdu buf)
+
+  pub room-stays : (buf : List ℕ) (turn : Turn End Tale) → Stays given turn → Stays given (withRoom given buf turn)
+  room-stays buf turn h = picked-stays (ltb (length buf) room) (refusing 10 given buf) turn (same-stays _ buf) h

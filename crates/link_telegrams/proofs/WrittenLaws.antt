@@ -13,10 +13,9 @@ use Rattle.codes.specs.declared.function_code.FunctionCode.{FunctionCode}
 use Rattle.link_rules.specs.Rules.{longest, turned}
 use Rattle.link_rules.specs.declared.link.Link.{Link}
 use Rattle.link_telegrams.specs.Headers.{linkHeader, openingHeader, orderHeader, okHeader, replyHeader}
-use Rattle.link_telegrams.specs.Heard.{dataToOf, requestToOf, requestHeardOf, replyHeardOf}
+use Rattle.link_telegrams.specs.Heard.{dataFrom, noData, dataToOf, requestToOf, requestHeardOf, replyHeardOf}
 use Rattle.link_telegrams.specs.declared.headers.Bit.{Bit}
 use Rattle.link_telegrams.specs.declared.headers.Bit.the-variants as bit
-use Rattle.link_telegrams.specs.declared.heard.DataHeard.the-variants as telegramTo
 use Rattle.link_telegrams.specs.declared.heard.ReplyHeard.the-variants as replyHeard
 use Rattle.link_telegrams.specs.declared.heard.RequestHeard.the-variants as requestHeard
 use Rattle.telegram.proofs.WrittenLaws.{read-after-write, pdu-after-write}
@@ -38,7 +37,7 @@ module _ (link : Link) (own-small : link .own .0 ≤ 127) (peer-small : link .pe
   heard-there :
       (fc : FunctionCode) (pdu : List ℕ)
       → dataToOf (link .peer) (telegramBytes (linkHeader link fc) pdu)
-      ≡ telegramTo.From (link .own) fc (atFront (linkHeader link fc) pdu .pdu)
+      ≡ dataFrom (link .own) fc (atFront (linkHeader link fc) pdu .pdu)
   unfolding dataToOf
   heard-there fc pdu =
       rw (
@@ -49,7 +48,7 @@ module _ (link : Link) (own-small : link .own .0 ≤ 127) (peer-small : link .pe
 
   not-heard-here :
       (link .own .0 ≡ link .peer .0 → ⊥) → (fc : FunctionCode) (pdu : List ℕ)
-      → dataToOf (link .own) (telegramBytes (linkHeader link fc) pdu) ≡ telegramTo.Nothing
+      → dataToOf (link .own) (telegramBytes (linkHeader link fc) pdu) ≡ noData
   unfolding dataToOf
   not-heard-here differ fc pdu =
       rw (

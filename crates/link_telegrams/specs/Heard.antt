@@ -9,6 +9,7 @@ use Rattle.ground.specs.Pick.{if}
 use Rattle.ground.specs.declared.address.Address.{Address}
 use Rattle.codes.specs.declared.frame_count_bit.FrameCountBit.{FrameCountBit}
 use Rattle.codes.specs.declared.frame_count_bit.FrameCountBit.the-variants as fcb
+use Rattle.codes.specs.declared.function_code.FunctionCode.{FunctionCode}
 use Rattle.codes.specs.declared.function_code.FunctionCode.the-variants.{Request, Response}
 use Rattle.ground.specs.declared.part.Part.{Part}
 use Rattle.codes.specs.RequestTypes.{requestNumber}
@@ -20,8 +21,6 @@ use Rattle.codes.specs.declared.response.ResponseStatus.the-variants as status
 use Rattle.link_rules.specs.Rules.{longest}
 use Rattle.link_rules.specs.declared.link.Link.{Link}
 use Rattle.link_telegrams.specs.declared.headers.Bit.the-variants as bit
-use Rattle.link_telegrams.specs.declared.heard.DataHeard.{DataHeard}
-use Rattle.link_telegrams.specs.declared.heard.DataHeard.the-variants as telegramTo
 use Rattle.link_telegrams.specs.declared.heard.ReplyHeard.{ReplyHeard}
 use Rattle.link_telegrams.specs.declared.heard.ReplyHeard.the-variants as replyHeard
 use Rattle.link_telegrams.specs.declared.heard.RequestHeard.{RequestHeard}
@@ -35,6 +34,11 @@ use Rattle.telegram.specs.declared.header.SapOption.the-variants as sap
 use Rattle.telegram.specs.declared.kinds.Telegram.{Telegram}
 use Rattle.telegram.specs.declared.kinds.Telegram.the-variants.{Data, Token, ShortConfirmation}
 
+-- what heard bytes are to a station: a data telegram to it, by its sender, code and PDU, or nothing
+pub data DataHeard : Type 0 where
+  dataFrom : Address → FunctionCode → Part → DataHeard
+  noData : DataHeard
+
 -- no SAP
 abbrev pub absent : SapOption → Bool
 absent (sap.Some s) = false
@@ -47,15 +51,15 @@ isTo h own = if (eqb (h .da .0) (own .0)) (if (absent (h .dsap)) (absent (h .ssa
 -- "one telegram that fills the given bytes": of n bytes heard it has them all; a data telegram to us
 abbrev pub dataIn : ℕ → ℕ → Address → Telegram → DataHeard
 dataIn n total own (Data d) =
-    if (eqb total n) (if (isTo (d .h) own) (telegramTo.From (d .h .sa) (d .h .fc) (d .pdu)) telegramTo.Nothing)
-    telegramTo.Nothing
-dataIn n total own (Token t) = telegramTo.Nothing
-dataIn n total own ShortConfirmation = telegramTo.Nothing
+    if (eqb total n) (if (isTo (d .h) own) (dataFrom (d .h .sa) (d .h .fc) (d .pdu)) noData)
+    noData
+dataIn n total own (Token t) = noData
+dataIn n total own ShortConfirmation = noData
 
 abbrev pub readIn : ℕ → Address → Reading → DataHeard
 readIn n own (whole t total) = dataIn n total own t
-readIn n own incomplete = telegramTo.Nothing
-readIn n own (refused number) = telegramTo.Nothing
+readIn n own incomplete = noData
+readIn n own (refused number) = noData
 
 unfoldable pub dataToOf : Address → List ℕ → DataHeard
 dataToOf own s = readIn (length s) own (readOf s)
@@ -69,10 +73,10 @@ srdOf fcb.Inactive pdu = requestHeard.Nothing
 
 -- the station that sent it, and its request
 abbrev pub requestIn : DataHeard → RequestTo
-requestIn (telegramTo.From sa (Request f req) pdu) =
+requestIn (dataFrom sa (Request f req) pdu) =
     if (eqb (requestNumber req) (requestNumber SrdLow)) (requestTo.From sa (srdOf f pdu)) requestTo.Nothing
-requestIn (telegramTo.From sa (Response state s) pdu) = requestTo.Nothing
-requestIn telegramTo.Nothing = requestTo.Nothing
+requestIn (dataFrom sa (Response state s) pdu) = requestTo.Nothing
+requestIn noData = requestTo.Nothing
 
 unfoldable pub requestToOf : Address → List ℕ → RequestTo
 requestToOf own s = requestIn (dataToOf own s)
@@ -90,11 +94,11 @@ slaveOf s pdu =
     replyHeard.Nothing)
 
 abbrev pub replyFrom : Address → DataHeard → ReplyHeard
-replyFrom peer (telegramTo.From sa (Request f req) pdu) = replyHeard.Nothing
-replyFrom peer (telegramTo.From sa (Response state s) pdu) =
+replyFrom peer (dataFrom sa (Request f req) pdu) = replyHeard.Nothing
+replyFrom peer (dataFrom sa (Response state s) pdu) =
     if (eqb (sa .0) (peer .0)) (if (eqb (stateNumber state) (stateNumber Slave)) (slaveOf s pdu) replyHeard.Nothing)
     replyHeard.Nothing
-replyFrom peer telegramTo.Nothing = replyHeard.Nothing
+replyFrom peer noData = replyHeard.Nothing
 
 -- what heard bytes are to the responder of a link, and to its initiator
 unfoldable pub requestHeardOf : Link → List ℕ → RequestHeard

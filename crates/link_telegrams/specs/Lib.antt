@@ -5,3 +5,5 @@ pub mod Headers
 pub mod Heard
 -- a call of an end: what it says, the end that it leaves and the lent buffer
 pub mod Turns
+-- what private functions promise each other
+pub mod Leaves

@@ -1,5 +1,5 @@
 -- A call of an end of the link, whichever end it is: what it says, the end that goes on, and the lent buffer at its end. The calls of
--- `initiator` and `responder` are said in these words. Read `Said`, `Turn`, `writesOf`, `withRoom`, `Made`.
+-- `initiator` and `responder` are said in these words. Read `Said`, `Turn`, `writesOf`, `withRoom`, `withLent`, `Made`.
 use Prim.Native.Nat.{ℕ}
 use mathlib.Core.List.{List}
 use lib.Dec.{ltb}
@@ -7,7 +7,7 @@ use lib.ListN.{length}
 use Rattle.ground.specs.Pick.{if}
 use Rattle.ground.specs.Refusals as refusals
 use Rattle.ground.specs.Refusals.{OrRefused}
-use Rattle.link_rules.specs.Rules.{room}
+use Rattle.link_rules.specs.Rules.{longest, room}
 use Rattle.telegram.specs.declared.header.DataTelegramHeader.{DataTelegramHeader}
 use Rattle.telegram_tx.specs.Writing.{writeOf, bufferOf}
 use Rattle.telegram_tx.specs.declared.tx.TelegramTxResponse.{TelegramTxResponse}
@@ -45,6 +45,10 @@ writesOf given next h pdu buf = wrote (writeOf h pdu (length buf)) given next (b
 -- "link calls that may write want 255 bytes": 10
 abbrev pub withRoom : {End Tale : Type 0} → End → List ℕ → Turn End Tale → Turn End Tale
 withRoom end buf turn = if (ltb (length buf) room) (refusing 10 end buf) turn
+
+-- An end in two parts, its head by value and the order or the held reply in lent bytes, wants 246 of those: 10 too.
+abbrev pub withLent : {End Tale : Type 0} → List ℕ → End → List ℕ → Turn End Tale → Turn End Tale
+withLent lent end buf turn = if (ltb (length lent) longest) (refusing 10 end buf) turn
 
 -- making an end: the answer's number, 0 where it was made, and the record
 pub record Made (End : Type 0) : Type 0 where

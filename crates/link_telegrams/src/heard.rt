@@ -1,24 +1,38 @@
-// What heard bytes are to an end of the link. Promises: `specs/Heard.antt`.
+// What heard bytes are to an end of the link. They are judged on the frame and by the code's byte: no code is decoded and no telegram
+// built. Promises: `specs/Heard.antt`; that both ways agree: `proofs/PlainLaws.antt`.
 ghost use mathlib.Core.Path.{_≡_};
-ghost use Rattle.link_telegrams.specs.Heard.{absent, isTo, dataIn, dataToOf, srdOf, slaveOf, requestToOf, requestHeardOf, replyHeardOf};
+ghost use Prim.Native.Nat.{_+_, _≤_};
+ghost use lib.ListN.{length};
+ghost use Rattle.codes.specs.FunctionCodes.{functionCodeOf};
+ghost use Rattle.telegram.specs.Frames.{framingOf, frameIs};
+ghost use Rattle.link_telegrams.specs.Heard.{dataToOf, requestIn, requestToOf, requestHeardOf, replyFrom, replyHeardOf};
+ghost use Rattle.link_telegrams.specs.Leaves.{decodedAs, decoded};
 use crate::headers::Bit;
-use codes::FrameCountBit;
-use codes::FunctionCode;
-use codes::RequestType;
-use codes::ResponseState;
-use codes::ResponseStatus;
 use ground::Address;
 use ground::Part;
 use link_rules::LONGEST;
 use link_rules::Link;
-use telegram::DataTelegramHeader;
-use telegram::Deserialized;
-use telegram::SapOption;
-use telegram::Telegram;
+use telegram::Frame;
+use telegram::FrameFound;
+use telegram::frame_of;
 
-// What heard bytes are to a station: one data telegram to it without SAPs that fills them, by its sender, code and PDU, or nothing.
-pub enum DataHeard {
-    From(Address, FunctionCode, Part),
+// The code's byte of a request SRD low with First.
+const FIRST: u8 = 0x6C;
+// With High.
+const HIGH: u8 = 0x7C;
+// With Low.
+const LOW: u8 = 0x5C;
+// With Inactive.
+const INACTIVE: u8 = 0x4C;
+// The code's byte of a slave's response Ok, but for bit 7, which is ignored.
+const OK: u8 = 0x00;
+// Of its response DataLow.
+const DATA_LOW: u8 = 0x08;
+
+// What heard bytes are to a station: one data telegram to it without SAPs that fills them, by its sender, its code's byte and its PDU,
+// or nothing. Whether the byte is one of a code is left open: an end looks for a few codes alone.
+enum PlainHeard {
+    From(Address, u8, Part),
     Nothing,
 }
 
@@ -42,79 +56,63 @@ pub enum ReplyHeard {
     Nothing,
 }
 
-fn has_no_sap(sap: SapOption) -> bool
-    ensures { λ r. ⌜ r ≡ absent sap ⌝ }
+// Of a frame that was found in the heard bytes. An address byte above 127 announces a SAP. The checksum costs the most and comes last.
+fn plain_in(own: Address, heard: &[u8], frame: Frame) -> PlainHeard
+    requires { ⌜ (framingOf (now heard) ≡ frameIs frame) × (3 ≤ frame .len) × (frame .at + frame .len + 2 ≤ length (now heard)) ⌝ }
+    ensures { λ r. ⌜ decoded r ≡ dataToOf own (now (heard .entry)) ⌝ }
 {
-    match sap {
-        SapOption::Some(_) => false,
-        SapOption::None => true,
+    if frame.total != heard.len() {
+        return PlainHeard::Nothing;
     }
-}
-
-// Whether a header goes to this station, and names no SAPs.
-fn is_to(h: DataTelegramHeader, own: Address) -> bool
-    ensures { λ r. ⌜ r ≡ isTo h own ⌝ }
-{
-    if h.da.0 != own.0 {
-        return false;
+    let at = frame.at;
+    let da = heard[at];
+    let sa = heard[at + 1];
+    if da != own.0 {
+        return PlainHeard::Nothing;
     }
-    let dsap = h.dsap;
-    let ssap = h.ssap;
-    if has_no_sap(dsap) {
-        has_no_sap(ssap)
+    if 127 < da {
+        return PlainHeard::Nothing;
+    }
+    if 127 < sa {
+        return PlainHeard::Nothing;
+    }
+    if frame.is_sealed(heard) {
+        let pdu = Part {
+            start: at + 3,
+            len: frame.len - 3,
+        };
+        PlainHeard::From(Address(sa), frame.code, pdu)
     } else {
-        false
+        PlainHeard::Nothing
     }
 }
 
-// Of a telegram of `total` bytes, in `n` bytes heard.
-fn data_in(n: usize, total: usize, own: Address, telegram: Telegram) -> DataHeard
-    ensures { λ r. ⌜ r ≡ dataIn n total own telegram ⌝ }
+fn plain_to(own: Address, heard: &[u8]) -> PlainHeard
+    ensures { λ r. ⌜ decoded r ≡ dataToOf own (now (heard .entry)) ⌝ }
 {
-    match telegram {
-        Telegram::Data(d) => {
-            if total != n {
-                return DataHeard::Nothing;
-            }
-            let h = d.h;
-            if is_to(h, own) {
-                let sa = h.sa;
-                let fc = h.fc;
-                let pdu = d.pdu;
-                DataHeard::From(sa, fc, pdu)
-            } else {
-                DataHeard::Nothing
-            }
-        }
-        Telegram::Token(_) => DataHeard::Nothing,
-        Telegram::ShortConfirmation => DataHeard::Nothing,
+    match frame_of(heard) {
+        FrameFound::Is(frame) => plain_in(own, heard, frame),
+        FrameFound::Incomplete => PlainHeard::Nothing,
+        FrameFound::Refused(_) => PlainHeard::Nothing,
     }
 }
 
-fn data_to(own: Address, heard: &[u8]) -> DataHeard
-    ensures { λ r. ⌜ r ≡ dataToOf own (now (heard .entry)) ⌝ }
+// What a telegram to a responder asks.
+fn request_in(sa: Address, code: u8, pdu: Part) -> RequestTo
+    ensures { λ r. ⌜ r ≡ requestIn (decodedAs sa pdu (functionCodeOf code)) ⌝ }
 {
-    match Telegram::deserialize(heard) {
-        Deserialized::Telegram(telegram, total) => data_in(heard.len(), total, own, telegram),
-        Deserialized::Incomplete => DataHeard::Nothing,
-        Deserialized::Refused(_) => DataHeard::Nothing,
-    }
-}
-
-fn srd(fcb: FrameCountBit, pdu: Part) -> RequestHeard
-    ensures { λ r. ⌜ r ≡ srdOf fcb pdu ⌝ }
-{
-    match fcb {
-        FrameCountBit::First => {
+    match code {
+        FIRST => {
             if pdu.len == 0 {
-                RequestHeard::Opening
+                RequestTo::From(sa, RequestHeard::Opening)
             } else {
-                RequestHeard::Nothing
+                RequestTo::From(sa, RequestHeard::Nothing)
             }
         }
-        FrameCountBit::High => RequestHeard::Order(Bit::High, pdu),
-        FrameCountBit::Low => RequestHeard::Order(Bit::Low, pdu),
-        FrameCountBit::Inactive => RequestHeard::Nothing,
+        HIGH => RequestTo::From(sa, RequestHeard::Order(Bit::High, pdu)),
+        LOW => RequestTo::From(sa, RequestHeard::Order(Bit::Low, pdu)),
+        INACTIVE => RequestTo::From(sa, RequestHeard::Nothing),
+        _ => RequestTo::Nothing,
     }
 }
 
@@ -122,16 +120,9 @@ fn srd(fcb: FrameCountBit, pdu: Part) -> RequestHeard
 pub fn request_to(own: Address, heard: &[u8]) -> RequestTo
     ensures { λ r. ⌜ r ≡ requestToOf own (now (heard .entry)) ⌝ }
 {
-    let DataHeard::From(sa, fc, pdu) = data_to(own, heard) else {
-        return RequestTo::Nothing;
-    };
-    let FunctionCode::Request { fcb, req } = fc else {
-        return RequestTo::Nothing;
-    };
-    if req.number() == RequestType::SrdLow.number() {
-        RequestTo::From(sa, srd(fcb, pdu))
-    } else {
-        RequestTo::Nothing
+    match plain_to(own, heard) {
+        PlainHeard::From(sa, code, pdu) => request_in(sa, code, pdu),
+        PlainHeard::Nothing => RequestTo::Nothing,
     }
 }
 
@@ -151,22 +142,30 @@ pub fn request_heard(link: Link, heard: &[u8]) -> RequestHeard
     }
 }
 
-fn slave(status: ResponseStatus, pdu: Part) -> ReplyHeard
-    ensures { λ r. ⌜ r ≡ slaveOf status pdu ⌝ }
+// What a telegram to an initiator is as a reply: the peer's, of a slave.
+fn reply_in(peer: Address, sa: Address, code: u8, pdu: Part) -> ReplyHeard
+    ensures { λ r. ⌜ r ≡ replyFrom peer (decodedAs sa pdu (functionCodeOf code)) ⌝ }
 {
-    if status.number() == ResponseStatus::Ok.number() {
-        if pdu.len == 0 {
-            return ReplyHeard::Ok;
-        }
+    if sa.0 != peer.0 {
         return ReplyHeard::Nothing;
     }
-    if status.number() == ResponseStatus::DataLow.number() {
-        if pdu.len <= LONGEST {
-            return ReplyHeard::Reply(pdu);
+    match code % 128 {
+        OK => {
+            if pdu.len != 0 {
+                ReplyHeard::Nothing
+            } else {
+                ReplyHeard::Ok
+            }
         }
-        return ReplyHeard::Nothing;
+        DATA_LOW => {
+            if pdu.len <= LONGEST {
+                ReplyHeard::Reply(pdu)
+            } else {
+                ReplyHeard::Nothing
+            }
+        }
+        _ => ReplyHeard::Nothing,
     }
-    ReplyHeard::Nothing
 }
 
 // What these bytes are to the initiator of the link: a reply of its responder.
@@ -175,18 +174,8 @@ pub fn reply_heard(link: Link, heard: &[u8]) -> ReplyHeard
 {
     let own = link.own;
     let peer = link.peer;
-    let DataHeard::From(sa, fc, pdu) = data_to(own, heard) else {
-        return ReplyHeard::Nothing;
-    };
-    if sa.0 != peer.0 {
-        return ReplyHeard::Nothing;
-    }
-    let FunctionCode::Response { state, status } = fc else {
-        return ReplyHeard::Nothing;
-    };
-    if state.number() == ResponseState::Slave.number() {
-        slave(status, pdu)
-    } else {
-        ReplyHeard::Nothing
+    match plain_to(own, heard) {
+        PlainHeard::From(sa, code, pdu) => reply_in(peer, sa, code, pdu),
+        PlainHeard::Nothing => ReplyHeard::Nothing,
     }
 }

@@ -26,9 +26,7 @@ use Rattle.link_rules.specs.declared.link.Link.{Link}
 use Rattle.link_telegrams.proofs.HeardCases.{another-asked, not-the-peer}
 use Rattle.link_telegrams.proofs.WrittenLaws.{opening-heard, order-heard, ok-heard, reply-heard, order-shown, reply-shown, opening-echoed, order-echoed, ok-echoed, reply-echoed}
 use Rattle.link_telegrams.specs.Headers.{openingHeader, orderHeader, okHeader, replyHeader}
-use Rattle.link_telegrams.specs.Heard.{absent, readIn, dataToOf, srdOf, requestIn, requestToOf, requestFrom, requestHeardOf, replyFrom, replyHeardOf}
-use Rattle.link_telegrams.specs.declared.heard.DataHeard.{DataHeard}
-use Rattle.link_telegrams.specs.declared.heard.DataHeard.the-variants as telegramTo
+use Rattle.link_telegrams.specs.Heard.{DataHeard, dataFrom, noData, absent, readIn, dataToOf, srdOf, requestIn, requestToOf, requestFrom, requestHeardOf, replyFrom, replyHeardOf}
 use Rattle.link_telegrams.specs.declared.heard.ReplyHeard.{ReplyHeard}
 use Rattle.link_telegrams.specs.declared.heard.ReplyHeard.the-variants as replyHeard
 use Rattle.link_telegrams.specs.declared.heard.RequestHeard.{RequestHeard}
@@ -87,7 +85,7 @@ not-there P i n true false false x' y' z f p e = p
 not-there P i n false x y x' y' z f p e = p
 
 -- A request of another station is none of the peer's.
-not-asked : (peer sa : Address) (fc : FunctionCode) (pdu : Part) → (sa .0 ≡ peer .0 → ⊥) → requestFrom peer (requestIn (telegramTo.From sa fc pdu)) ≡ requestHeard.Nothing
+not-asked : (peer sa : Address) (fc : FunctionCode) (pdu : Part) → (sa .0 ≡ peer .0 → ⊥) → requestFrom peer (requestIn (dataFrom sa fc pdu)) ≡ requestHeard.Nothing
 not-asked peer sa (Request f req) pdu d = go (eqb (requestNumber req) (requestNumber SrdLow))
   where
     go : (t : Bool) → requestFrom peer (if t (requestTo.From sa (srdOf f pdu)) requestTo.Nothing) ≡ requestHeard.Nothing
@@ -95,12 +93,12 @@ not-asked peer sa (Request f req) pdu d = go (eqb (requestNumber req) (requestNu
     go false = refl
 not-asked peer sa (Response state s) pdu d = refl
 
-module _ (a b : Address) (P : DataHeard → Type 0) (none : P telegramTo.Nothing) where
+module _ (a b : Address) (P : DataHeard → Type 0) (none : P noData) where
   nothing-read :
-      ((sa : Address) (fc : FunctionCode) (pdu : Part) → (sa .0 ≡ a .0 → ⊥) → P (telegramTo.From sa fc pdu))
+      ((sa : Address) (fc : FunctionCode) (pdu : Part) → (sa .0 ≡ a .0 → ⊥) → P (dataFrom sa fc pdu))
       → (n : ℕ) (r : Reading) → bearsIn n a b r ≡ false → P (readIn n b r)
   nothing-read f n (whole (Data d) total) e =
-      not-there P (telegramTo.From (d .h .sa) (d .h .fc) (d .pdu)) telegramTo.Nothing (eqb total n) (eqb (d .h .sa .0) (a .0)) (eqb (d .h .da .0) (b .0)) (eqb (d .h .sa .0) (b .0)) (eqb (d .h .da .0) (a .0))
+      not-there P (dataFrom (d .h .sa) (d .h .fc) (d .pdu)) noData (eqb total n) (eqb (d .h .sa .0) (a .0)) (eqb (d .h .da .0) (b .0)) (eqb (d .h .sa .0) (b .0)) (eqb (d .h .da .0) (a .0))
       (if (absent (d .h .dsap)) (absent (d .h .ssap)) false)
       (λ other. f (d .h .sa) (d .h .fc) (d .pdu) (eqb-false _ _ other)) none e
   nothing-read f n (whole (Token t) total) e = none

@@ -126,14 +126,14 @@ module _ (link : Link) (linked : Linked link) where
     submits Closed true e = rw e (record { same = refl; soundNext = ofInitiator n Closed a l array; soundWrites = tt })
     submits Closed false e =
         let small = order-small q e in
-        let kept = kept-order (at n Closed a l) q array small in
+        let kept = kept-order (at n Closed a l) q (omega (arith, array)) small in
         rw e
         (subst (λ (r : List ℕ). InitiatorSame (turnOf (outcomeShown []) (call.sendsOpening (at n Closed a l) (call.keeping (at n Closed a l) q) 1 buf)) (putTurn C (message.submitIn n message.closed r))) kept
         (opens n (copiedTo a q) (kept-array small) (length q) [] buf wide (at n Closed a l) Closed 1))
     submits (Ready b) true e = rw e (record { same = refl; soundNext = ofInitiator n (Ready b) a l array; soundWrites = tt })
     submits (Ready b) false e =
         let small = order-small q e in
-        let kept = kept-order (at n (Ready b) a l) q array small in
+        let kept = kept-order (at n (Ready b) a l) q (omega (arith, array)) small in
         rw e
         (subst (λ (r : List ℕ). InitiatorSame (turnOf (outcomeShown []) (call.sendsOrder (at n (Ready b) a l) (call.keeping (at n (Ready b) a l) q) b 1 buf)) (putTurn C (message.submitIn n (message.ready (bitSeen b)) r))) kept
         (sends n (copiedTo a q) (kept-array small) (length q) [] buf wide (at n (Ready b) a l) (Ready b) b 1))

@@ -17,7 +17,7 @@ use Rattle.demand_3.specs.History.{made, handUp, ended, Entry, entry, History, 
 use Rattle.demand_3.specs.Line.{Pair, State, Call, submits, silent, initiatorHears, initiatorRestarts, responderHears, answers, step, start, run, Obeys, inFlight, stray}
 use Rattle.demand_3.specs.Live.{reportAt, Wide, Prompt, passes}
 use Rattle.demand_3.specs.Safe.{entriesOf}
-use Rattle.demand_3.specs.Turns.{confirmed, notSent}
+use Rattle.demand_3.specs.Turns.{confirmed, notSent, unknown}
 use Rattle.link_rules.specs.Rules.{wrongAddresses, wrongTries, wrongLength}
 use Rattle.link_telegrams.specs.Headers.{openingHeader, orderHeader, okHeader, replyHeader}
 use Rattle.link_telegrams.specs.Heard.{dataToOf, requestToOf, requestHeardOf, replyHeardOf}
@@ -103,6 +103,18 @@ accident =
     ∷ initiatorHears room secondReply
     ∷ []
 
+-- The telegram heard after a restart: the order is in flight when the initiator restarts, and is heard and answered then.
+abbrev heardLate : List (Call link)
+heardLate =
+    submits room (0x01 ∷ 0x03 ∷ [])
+    ∷ responderHears room opening
+    ∷ initiatorHears room ok
+    ∷ initiatorRestarts
+    ∷ responderHears room order
+    ∷ answers room (0x07 ∷ [])
+    ∷ initiatorHears room reply
+    ∷ []
+
 -- all tries of an opening are lost: the first to an echo, the second to noise, with a silence refused for want of room between
 abbrev deadLine : List (Call link)
 deadLine =
@@ -141,6 +153,11 @@ pub record Runs : Type 0 where
       Ends (ordinary ++ accident)
       (history (entry (0x02 ∷ []) (handUp (0x02 ∷ []) (made (0x08 ∷ [])) ∷ []) (ended (confirmed (0x08 ∷ []) 1)) 1 1 ∷ first ∷ [])
       ((0x02 ∷ []) ∷ (0x01 ∷ 0x03 ∷ []) ∷ []) false)
+  -- the order is reported unknown, and carried out afterwards; its late reply is no second outcome
+  pub an-order-is-heard-after-the-restart :
+      Ends heardLate
+      (history (entry (0x01 ∷ 0x03 ∷ []) (handUp (0x01 ∷ 0x03 ∷ []) (made (0x07 ∷ [])) ∷ []) (ended (unknown 1)) 1 1 ∷ [])
+      ((0x01 ∷ 0x03 ∷ []) ∷ []) false)
   pub both-phases-pass : reportAt 0 (entriesOf (passed .past)) ≡ ended (confirmed (0x07 ∷ []) 1)
   pub a-dead-line-sends-nothing : Ends deadLine (history (entry (0x02 ∷ []) [] (ended (notSent 2)) 2 0 ∷ []) [] false)
 
@@ -160,6 +177,8 @@ runs =
             lawful = (tt, (inFlight, (inFlight, (inFlight, (tt, (inFlight, (tt, (tt, (inFlight, (inFlight, (inFlight, (tt, (inFlight, tt)))))))))))));
             past = refl;
           };
+      an-order-is-heard-after-the-restart =
+          record { lawful = (tt, (inFlight, (inFlight, (tt, (inFlight, (tt, (inFlight, tt))))))); past = refl };
       both-phases-pass = refl;
       a-dead-line-sends-nothing =
           record { lawful = (tt, (inFlight, (tt, (tt, (stray refl, (tt, tt)))))); past = refl };

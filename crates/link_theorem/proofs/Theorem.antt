@@ -1,9 +1,16 @@
 -- Demand 3 on the calls themselves: the pair of ends that the calls make follows the two ends on messages over the link's codec, call
 -- by call, and so keeps what those keep. Read `demand-3`.
 use Prim.Native.Nat.{ℕ}
+use borrow.Author.Tests.{leb-true, le-ltb}
+use lib.Dec.{leb}
+use lib.ListN.{length}
+use mathlib.Core.Bool.{Bool, true, false, not, false≢true}
 use mathlib.Core.List.{List}
-use mathlib.Core.Path.{_≡_, refl}
-use Rattle.link_rules.specs.Rules.{Linked, turned}
+use mathlib.Core.Path.{_≡_, refl, ap, _∙_}
+use native.Mathlib.Omega.{arith}
+use Rattle.ground.specs.Pick.{if}
+use Rattle.link_rules.proofs.RuleLaws.{some-bytes}
+use Rattle.link_rules.specs.Rules.{Linked, longest, turned, wrongLength}
 use Rattle.link_rules.specs.declared.link.Link.{Link}
 use Rattle.link_model.proofs.Coded.{coded-follower-demand}
 use Rattle.demand_3.proofs.Follows.{Follows}
@@ -25,6 +32,14 @@ opening-seen s heard.Opening = refl
 opening-seen s (heard.Order b q) = refl
 opening-seen s heard.Nothing = refl
 
+-- The length of an order that may be submitted is none that the call refuses.
+right-length : (n : ℕ) → if (leb 1 n) (leb n longest) false ≡ true → not (wrongLength n) ≡ true
+right-length n e = go (leb 1 n) refl e
+  where
+    go : (t : Bool) → leb 1 n ≡ t → if t (leb n longest) false ≡ true → not (wrongLength n) ≡ true
+    go true p h = ap not (some-bytes n (λ z. omega (arith, leb-true 1 n p, z)) ∙ le-ltb longest n (leb-true n longest h))
+    go false p h = absurd (false≢true h)
+
 module _ (link : Link) (linked : Linked link) where
   calls-follow : Follows (orderLink link) (coded (codec link))
   calls-follow =
@@ -42,6 +57,8 @@ module _ (link : Link) (linked : Linked link) where
         sameEnough = λ buf. refl;
         sameAnswerable = λ p e. e;
         enoughAnswer = λ buf p e f. e;
+        sameOrderable = λ q e. right-length (length q) e;
+        enoughSubmit = λ buf q e f. e;
         madeInitiator = initiator.made-seen link linked;
         madeSound = initiator.made-of link linked;
         submits = initiator.submit-same link linked;

@@ -1,9 +1,10 @@
--- Wrong ends on bytes for which demand 3 is refuted: ends that hear telegrams that are not for this link, that hear none, or that
--- write another. On messages they cannot be told from ours; here what else the line may bring is fixed by the addresses.
+-- Wrong ends on bytes for which demand 3 is refuted: ends that hear telegrams that are not for this link, that hear none, that
+-- write another, or that take no order. On messages they cannot be told from ours; here what else the line may bring is fixed by the addresses.
 use Prim.Native.Nat.{ℕ, _+_}
 use mathlib.Core.List.{List, [], _∷_}
 use mathlib.Core.Path.{refl}
 use lib.Dec.{ltb, lit≤}
+use lib.ListN.{length, replicate}
 use Rattle.ground.specs.Front.{copiedTo}
 use Rattle.codes.specs.Checksums.{sumOf, checksumOf}
 use Rattle.codes.specs.FunctionCodes.{codeByte, functionCodeOf}
@@ -58,6 +59,7 @@ module _ (submitsSo : Initiator → List ℕ → List ℕ → turns.Turn Initiat
         answer = link .answer;
         responderRestart = link .responderRestart;
         enough = link .enough;
+        orderable = link .orderable;
         answerable = link .answerable;
         opens = link .opens;
         StrayToInitiator = link .StrayToInitiator;
@@ -130,6 +132,14 @@ opensHigh =
     changed (λ i q buf. turns.withRoom i buf (submitsHigh (i .phase) i q buf))
     (λ i buf. turns.withRoom i buf (repeatsHigh (i .phase) i buf)) hearOf responder.hearOf
 
+-- an initiator that refuses every order, and one that refuses those of 246 bytes
+abbrev refusesOrders : Pair
+refusesOrders = changed (λ i q buf. turns.refusing 16 i buf) silenceOf hearOf responder.hearOf
+
+abbrev refusesLongest : Pair
+refusesLongest =
+    changed (λ i q buf. if (ltb 245 (length q)) (turns.refusing 16 i buf) (submitOf i q buf)) silenceOf hearOf responder.hearOf
+
 -- the order 01 03 is submitted, and then a first try of the opening and one of the order pass both ways, as far as they are written
 abbrev submittedTo : (P : Pair) → P .Room → State P
 submittedTo P r = step P (start P 2) (submits r (0x01 ∷ 0x03 ∷ []))
@@ -160,6 +170,9 @@ pub record Refuted : Type 0 where
   -- with nothing lost and the application ready to answer, the order stays pending
   pub refuses-all-bytes : Demand deaf → ⊥
   pub opening-written-as-high : Demand opensHigh → ⊥
+  -- the very first order is not taken
+  pub refuses-every-order : Demand refusesOrders → ⊥
+  pub refuses-the-longest-order : Demand refusesLongest → ⊥
 
 pub refuted : Refuted
 unfolding wrongAddresses wrongTries wrongLength sumOf checksumOf codeByte functionCodeOf requestTypeOf stateOf statusOf headerAt sapsAt contentOf frameOf lengthsOf dataOf tokenOf readOf headBytes coveredBytes lengthByte startBytes telegramBytes sendOf writeOf shownPart copiedTo submitOf silenceOf hearOf madeOf openingHeader orderHeader okHeader replyHeader dataToOf requestToOf requestHeardOf replyHeardOf responder.hearOf responderRecords.madeOf rowHears bearsBoth
@@ -192,6 +205,8 @@ refuted =
           λ d. not-confirmed 0 (firstTry opensHigh highRoom highAnswer (submittedTo opensHigh room) .past) (λ x. x)
           (d .live 2 two-tries [] tt room (0x01 ∷ 0x03 ∷ []) (firstTry opensHigh highRoom highAnswer (submittedTo opensHigh room)) tt refl
           (orderAtOnce (record { k = 1; fromOne = lit≤ tt; toTries = lit≤ tt; tried = passed highRoom highAnswer highRoom })));
+      refuses-every-order = λ d. d .takes 2 two-tries [] tt room (0x01 ∷ 0x03 ∷ []) refl refl refl;
+      refuses-the-longest-order = λ d. d .takes 2 two-tries [] tt room (replicate 246 0x01) refl refl refl;
     }
   where
     deafRoom : Wide deaf

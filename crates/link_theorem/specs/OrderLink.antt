@@ -104,6 +104,8 @@ orderLink link =
       responderRestart = responder.restartOf;
       -- "link calls that may write want 255 bytes"
       enough = λ buf. leb room (length buf);
+      -- an order of "1 to 246 bytes"
+      orderable = λ q. if (leb 1 (length q)) (leb (length q) longest) false;
       -- "an answer of at most 246 bytes"
       answerable = λ p. leb (length p) longest;
       -- "Opening: First, empty PDU", from the initiator to the responder

@@ -1,7 +1,7 @@
 -- Read `Scenes`; the rest serves the proofs of the code.
 -- a responder's day, computed
 pub mod Scenes
--- what a call comes to, by its room
+-- what a call comes to, by its room and by what is lent
 pub mod CallLaws
 -- the maker, case by case
 pub mod RecordLaws

@@ -1,5 +1,6 @@
 -- Document 01, "Responder": what each call answers, the record that it leaves, and the buffer. Read `hearOf`, `answerOf`,
--- `restartOf`; the words `Said` and `Turn` are those of `link_telegrams`.
+-- `restartOf`, and for a responder in two parts `shownOn`, `hearOn`, `answerOn`; the words `Said` and `Turn` are those of
+-- `link_telegrams`.
 use Prim.Native.Nat.{ℕ}
 use mathlib.Core.List.{List, []}
 use Rattle.ground.specs.Refusals as refusals
@@ -7,16 +8,17 @@ use Rattle.ground.specs.Refusals.{OrRefused, numberOf}
 use Rattle.ground.specs.declared.part.Part.{Part}
 use Rattle.link_telegrams.specs.Headers.{okHeader, replyHeader}
 use Rattle.link_telegrams.specs.Heard.{requestHeardOf}
-use Rattle.link_telegrams.specs.Turns.{Said, sent, tells, nothing, refused, Turn, saying, refusing, writesOf, withRoom}
+use Rattle.link_telegrams.specs.Turns.{Said, sent, tells, nothing, refused, Turn, saying, refusing, writesOf, withRoom, withLent}
 use Rattle.responder.specs.Records.{blankOf}
-use Rattle.responder_row.specs.Rows.{heldOf, rowHears, rowAnswers}
+use Rattle.responder_row.specs.Rows.{WholeTurn, heldOf, rowHears, rowAnswers, rowOf}
 use Rattle.responder.specs.declared.answer.ResponderAnswer.{ResponderAnswer}
 use Rattle.responder.specs.declared.answer.ResponderAnswer.the-variants as answer
 use Rattle.responder.specs.declared.answer.ResponderTurn.{ResponderTurn}
 use Rattle.responder_row.specs.declared.row.Row.{Row}
 use Rattle.responder_row.specs.declared.row.RowAction.{RowAction}
 use Rattle.responder_row.specs.declared.row.RowAction.the-variants as action
-use Rattle.responder_row.specs.declared.row.RowTurn.{RowTurn}
+use Rattle.responder.specs.declared.head.ResponderHead.{ResponderHead}
+use Rattle.responder.specs.declared.head.ResponderHeadTurn.{ResponderHeadTurn}
 use Rattle.responder.specs.declared.state.Responder.{Responder}
 
 -- What a call answers, with document 01's number. The application is told an order: it is handed up "as part of the heard bytes".
@@ -52,7 +54,7 @@ actsOf action.WriteHeld r row buf = sendsHeld r row buf
 actsOf (action.HandUp order) r row buf = saying (tells order) (withRow r row) buf
 actsOf action.Nothing r row buf = saying nothing (withRow r row) buf
 
-abbrev pub hearIn : RowTurn → Responder → List ℕ → Turn Responder Part
+abbrev pub hearIn : WholeTurn → Responder → List ℕ → Turn Responder Part
 hearIn turn r buf = actsOf (turn .action) r (turn .row) buf
 
 -- "hears SRD low from its peer to itself", and goes by its row
@@ -70,3 +72,19 @@ answerOf r p buf = withRoom r buf (answerIn (rowAnswers (r .row) p) r p buf)
 -- "Restart forgets all"
 abbrev pub restartOf : Responder → Responder
 restartOf r = blankOf (r .link)
+
+-- ---- a responder in two parts: its head by value, and the held reply where its bytes are lent
+
+abbrev pub wholeOf : ResponderHead → List ℕ → Responder
+wholeOf head held = record { link = head .link; row = rowOf (head .row) held }
+
+-- what a call on the parts answers, with the lent bytes and the buffer at its end
+abbrev pub shownOn : ResponderHeadTurn → List ℕ → List ℕ → Turn Responder Part
+shownOn t held buf = saying (shownSaid (t .answer)) (wholeOf (t .head) held) buf
+
+-- what the call by value answers of the whole, where enough is lent
+abbrev pub hearOn : ResponderHead → List ℕ → List ℕ → List ℕ → Turn Responder Part
+hearOn head held s buf = withLent held (wholeOf head held) buf (hearOf (wholeOf head held) s buf)
+
+abbrev pub answerOn : ResponderHead → List ℕ → List ℕ → List ℕ → Turn Responder Part
+answerOn head held p buf = withLent held (wholeOf head held) buf (answerOf (wholeOf head held) p buf)

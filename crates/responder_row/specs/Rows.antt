@@ -1,5 +1,5 @@
 -- Document 01, "Responder": what it remembers of one initiator, and what a heard telegram, an answer and a restart do to that.
--- Read `rowHears`, `rowAnswers`.
+-- Read `rowHears`, `rowAnswers`, and for a row in two parts `rowOf`, `shownHeard`, `shownAnswered`.
 use Prim.Native.Nat.{ℕ}
 use mathlib.Core.Bool.{Bool, true, false}
 use mathlib.Core.List.{List, _++_}
@@ -15,12 +15,14 @@ use Rattle.link_telegrams.specs.declared.headers.Bit.{Bit}
 use Rattle.link_telegrams.specs.declared.headers.Bit.the-variants.{Low, High}
 use Rattle.link_telegrams.specs.declared.heard.RequestHeard.{RequestHeard}
 use Rattle.link_telegrams.specs.declared.heard.RequestHeard.the-variants as heard
+use Rattle.responder_row.specs.declared.head.RowAnswered.{RowAnswered}
+use Rattle.responder_row.specs.declared.head.RowHead.{RowHead}
+use Rattle.responder_row.specs.declared.head.RowTurn.{RowTurn}
 use Rattle.responder_row.specs.declared.row.Row.{Row}
+use Rattle.responder_row.specs.declared.row.RowAction.{RowAction}
 use Rattle.responder_row.specs.declared.row.RowAction.the-variants as action
-use Rattle.responder_row.specs.declared.row.RowAnswered.{RowAnswered}
 use Rattle.responder_row.specs.declared.row.RowState.{RowState}
 use Rattle.responder_row.specs.declared.row.RowState.the-variants.{Blank, Opened, Owes, Holds}
-use Rattle.responder_row.specs.declared.row.RowTurn.{RowTurn}
 use Rattle.responder_row.specs.declared.row.StoredBit.{StoredBit}
 use Rattle.responder_row.specs.declared.row.StoredBit.the-variants as stored
 
@@ -72,12 +74,17 @@ dropping row state = inState row state 0
 abbrev pub holding : Bit → List ℕ → Row → Row
 holding b p row = record { state = Holds b; held = p ++ drop (length p) (row .held); len = length p }
 
+-- what hearing comes to: what is asked of the responder, and the row that goes on
+pub record WholeTurn : Type 0 where
+  pub action : RowAction
+  pub row : Row
+
 -- "nothing"
-abbrev pub ignoring : Row → RowTurn
+abbrev pub ignoring : Row → WholeTurn
 ignoring row = record { action = action.Nothing; row = row }
 
 -- "Same bit: the held reply again, nothing where none is held"
-abbrev pub againOn : RowState → Row → RowTurn
+abbrev pub againOn : RowState → Row → WholeTurn
 againOn Blank row = ignoring row
 againOn Opened row = ignoring row
 againOn (Owes b) row = ignoring row
@@ -85,17 +92,17 @@ againOn (Holds b) row = record { action = action.WriteHeld; row = row }
 
 -- "Other bit: empty or above 246 bytes, nothing; else store the bit, drop the held reply and hand the order up as part of the
 -- heard bytes"
-abbrev pub otherOn : Bit → Part → Row → RowTurn
+abbrev pub otherOn : Bit → Part → Row → WholeTurn
 otherOn b q row =
     if (wrongLength (q .len)) (ignoring row) (record { action = action.HandUp q; row = dropping row (Owes b) })
 
 -- "FCV with no stored bit: nothing. Same bit: … Other bit: …"
-abbrev pub orderOn : StoredBit → Bit → Part → Row → RowTurn
+abbrev pub orderOn : StoredBit → Bit → Part → Row → WholeTurn
 orderOn stored.Nothing b q row = ignoring row
 orderOn (stored.Is c) b q row = if (sameBit c b) (againOn (row .state) row) (otherOn b q row)
 
 -- "First and empty: store bit 1, drop an owed or held reply, answer. … All else: nothing"
-unfoldable pub rowHears : RequestHeard → Row → RowTurn
+unfoldable pub rowHears : RequestHeard → Row → WholeTurn
 rowHears heard.Opening row = record { action = action.WriteOk; row = dropping row Opened }
 rowHears (heard.Order b q) row = orderOn (storedBit (row .state)) b q row
 rowHears heard.Nothing row = ignoring row
@@ -120,5 +127,23 @@ abbrev pub shownIn : Answer → Row → OrRefused Row
 shownIn answer.Done row = gives row
 shownIn (answer.Refused refusal) row = refused (numberOf refusal)
 
-abbrev pub shownAnswered : RowAnswered → OrRefused Row
-shownAnswered a = shownIn (a .answer) (a .row)
+-- ---- a row in two parts: its head by value, and the held bytes where they are lent
+
+abbrev pub rowOf : RowHead → List ℕ → Row
+rowOf head held = record { state = head .state; held = held; len = head .len }
+
+-- hearing leaves the held bytes
+abbrev pub shownHeard : RowTurn → List ℕ → WholeTurn
+shownHeard t held = record { action = t .action; row = rowOf (t .head) held }
+
+-- the held bytes after an answer: where it was taken, it stands at their front
+abbrev pub heldAfter : Answer → List ℕ → List ℕ → List ℕ
+heldAfter answer.Done held p = p ++ drop (length p) held
+heldAfter (answer.Refused refusal) held p = held
+
+-- the row that comes back of an answer, and what that gives, as above
+abbrev pub rowAnswered : RowAnswered → List ℕ → List ℕ → Row
+rowAnswered a held p = rowOf (a .head) (heldAfter (a .answer) held p)
+
+abbrev pub shownAnswered : RowAnswered → List ℕ → List ℕ → OrRefused Row
+shownAnswered a held p = shownIn (a .answer) (rowAnswered a held p)

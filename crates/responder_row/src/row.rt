@@ -1,17 +1,12 @@
-// What a responder remembers of one initiator: a row, its questions, what is heard and what is answered. Promises: `specs/Rows.antt`.
+// What a responder remembers of one initiator: a row with its held bytes, and its questions. The rules go by its head, in `head.rt`.
+// Promises: `specs/Rows.antt`.
 ghost use mathlib.Core.Path.{_≡_};
-ghost use Prim.Native.Nat.{_≤_};
 ghost use lib.ListN.{length};
-ghost use Rattle.link_rules.specs.Rules.{longest};
-ghost use Rattle.responder_row.specs.Rows.{blankRow, storedBit, owesReply, holdsReply, heldOf, sameBit, inState, holding, ignoring, againOn, otherOn, orderOn, rowHears, shownAnswered, rowAnswers, rowAfter};
-use ground::Answer;
+ghost use Rattle.responder_row.specs.Rows.{blankRow, storedBit, owesReply, holdsReply, heldOf};
+use crate::head::RowHead;
 use ground::Part;
-use ground::Refusal;
-use ground::copy_to_front;
 use link_rules::LONGEST;
-use link_rules::wrong_length;
 use link_telegrams::Bit;
-use link_telegrams::RequestHeard;
 
 // What a responder remembers of one initiator.
 pub enum RowState {
@@ -44,31 +39,6 @@ pub enum RowAction {
     WriteHeld,
     HandUp(Part),
     Nothing,
-}
-
-pub struct RowTurn {
-    pub action: RowAction,
-    pub row: Row,
-}
-
-pub struct RowAnswered {
-    pub answer: Answer,
-    pub row: Row,
-}
-
-fn same_bit(stored: Bit, bit: Bit) -> bool
-    ensures { λ r. ⌜ r ≡ sameBit stored bit ⌝ }
-{
-    match stored {
-        Bit::Low => match bit {
-            Bit::Low => true,
-            Bit::High => false,
-        },
-        Bit::High => match bit {
-            Bit::Low => false,
-            Bit::High => true,
-        },
-    }
 }
 
 impl RowState {
@@ -131,12 +101,23 @@ impl Row {
         self.state
     }
 
+    // All of the row but the held bytes.
+    pub fn head(self) -> RowHead
+        ensures { λ r. ⌜ r ≡ record { state = self .state; len = self .len } ⌝ }
+    {
+        let state = self.state;
+        RowHead {
+            state,
+            len: self.len,
+        }
+    }
+
     // How many bytes the held reply has.
     pub fn held_len(self) -> usize
         ensures { λ r. ⌜ r ≡ length (heldOf self) ⌝ }
     {
-        let len = self.len;
-        if len <= LONGEST { len } else { LONGEST }
+        let head = self.head();
+        head.held_len(LONGEST)
     }
 
     // The held reply is the first `held_len` bytes of this.
@@ -144,124 +125,5 @@ impl Row {
         ensures { λ r. ⌜ r ≡ self .held ⌝ }
     {
         self.held
-    }
-
-    // The row in another state, with so many bytes of what it held.
-    fn in_state(self, state: RowState, len: usize) -> Row
-        ensures { λ r. ⌜ r ≡ inState self state len ⌝ }
-    {
-        let held = self.held;
-        Row { state, held, len }
-    }
-
-    fn hold(self, bit: Bit, reply: &[u8]) -> Row
-        requires { ⌜ length (now reply) ≤ longest ⌝ }
-        ensures { λ r. ⌜ r ≡ holding bit (now (reply .entry)) self ⌝ }
-    {
-        let mut held = self.held;
-        copy_to_front(reply, &mut held);
-        let state = RowState::Holds(bit);
-        Row {
-            state,
-            held,
-            len: reply.len(),
-        }
-    }
-
-    fn ignore(self) -> RowTurn
-        ensures { λ r. ⌜ r ≡ ignoring self ⌝ }
-    {
-        RowTurn {
-            action: RowAction::Nothing,
-            row: self,
-        }
-    }
-
-    // An order under the stored bit.
-    fn hear_again(self) -> RowTurn
-        ensures { λ r. ⌜ r ≡ againOn (self .state) self ⌝ }
-    {
-        let state = self.state;
-        match state {
-            RowState::Blank => self.ignore(),
-            RowState::Opened => self.ignore(),
-            RowState::Owes(_) => self.ignore(),
-            RowState::Holds(_) => RowTurn {
-                action: RowAction::WriteHeld,
-                row: self,
-            },
-        }
-    }
-
-    // An order under the other bit.
-    fn hear_other(self, bit: Bit, order: Part) -> RowTurn
-        ensures { λ r. ⌜ r ≡ otherOn bit order self ⌝ }
-    {
-        if wrong_length(order.len) {
-            return self.ignore();
-        }
-        let row = self.in_state(RowState::Owes(bit), 0);
-        let action = RowAction::HandUp(order);
-        RowTurn { action, row }
-    }
-
-    fn hear_order(self, bit: Bit, order: Part) -> RowTurn
-        ensures { λ r. ⌜ r ≡ orderOn (storedBit (self .state)) bit order self ⌝ }
-    {
-        let state = self.state;
-        let StoredBit::Is(stored) = state.stored_bit() else {
-            return self.ignore();
-        };
-        if same_bit(stored, bit) {
-            self.hear_again()
-        } else {
-            self.hear_other(bit, order)
-        }
-    }
-
-    // What a heard request does to the row.
-    pub fn hear(self, heard: RequestHeard) -> RowTurn
-        ensures { λ r. ⌜ r ≡ rowHears heard self ⌝ }
-    {
-        match heard {
-            RequestHeard::Opening => {
-                let row = self.in_state(RowState::Opened, 0);
-                RowTurn {
-                    action: RowAction::WriteOk,
-                    row,
-                }
-            }
-            RequestHeard::Order(bit, order) => self.hear_order(bit, order),
-            RequestHeard::Nothing => self.ignore(),
-        }
-    }
-
-    fn refuse(self, refusal: Refusal) -> RowAnswered
-        ensures { λ r. ⌜ r ≡ record { answer = Answer.Refused refusal; row = self } ⌝ }
-    {
-        let answer = Answer::Refused(refusal);
-        RowAnswered { answer, row: self }
-    }
-
-    // The application's answer. Refusals 21 and 9, in this order.
-    pub fn answer(self, reply: &[u8]) -> RowAnswered
-        ensures { λ r. ⌜ (shownAnswered r ≡ rowAnswers self (now (reply .entry))) × (r .row ≡ rowAfter (rowAnswers self (now (reply .entry))) self) ⌝ }
-    {
-        let state = self.state;
-        match state {
-            RowState::Blank => self.refuse(Refusal::NoReplyOwed),
-            RowState::Opened => self.refuse(Refusal::NoReplyOwed),
-            RowState::Owes(bit) => {
-                if LONGEST < reply.len() {
-                    return self.refuse(Refusal::TooLong);
-                }
-                let row = self.hold(bit, reply);
-                RowAnswered {
-                    answer: Answer::Done,
-                    row,
-                }
-            }
-            RowState::Holds(_) => self.refuse(Refusal::NoReplyOwed),
-        }
     }
 }

@@ -3,7 +3,7 @@
 pub mod Determined
 -- the machine values of a list, an address and an answer
 pub mod Spelling
--- the step of a call that never refuses: one law for both of its kind
+-- a call that never refuses: one theorem for both of its kind, over how many addresses it passes on
 pub mod Replacing
 -- a call that may refuse: one theorem for both of its kind
 pub mod Answering

@@ -1,5 +1,6 @@
 -- Laws of the frame. Read `framed-read`: the reader's answer is made from it; for callers who judge the bytes of a frame themselves
--- `found-frame`, `frame-reads`, `sealed-found` and `data-framed`. The rest says what each step of framing answers.
+-- `found-frame`, `frame-reads`, `sealed-found`, `data-framed`, `framed-data` and `sealed-reads`. The rest says what each step of framing
+-- answers.
 use Prim.Native.Nat.{ℕ, _+_, _-_, _<_, _≤_}
 use mathlib.Core.Bool.{Bool, true, false, not}
 use mathlib.Core.List.{List}
@@ -12,16 +13,19 @@ use borrow.Author.Tests.{ltb-true, ltb-false, eqb-true, eqb-false, lt-ltb, le-lt
 use Rattle.codes.specs.Checksums.{checksumOf}
 use Rattle.codes.specs.Delimiters.{SD1, SD2, SD3, SD4, SC, ED}
 use Rattle.codes.specs.FunctionCodes.{functionCodeOf}
+use Rattle.codes.specs.declared.function_code.FunctionCode.{FunctionCode}
+use Rattle.codes.specs.declared.function_code.FunctionCodeFound.{FunctionCodeFound}
+use Rattle.codes.specs.declared.function_code.FunctionCodeFound.the-variants as codeFound
 use Rattle.ground.proofs.Injective.{injective, zero-one}
-use Rattle.ground.proofs.PickLaws.{picked}
+use Rattle.ground.proofs.PickLaws.{picked, both-first, both-second}
 use Rattle.ground.proofs.RefusalLaws.{refusalOf, refusal-again}
 use Rattle.ground.specs.Part.{part, byteAt}
 use Rattle.ground.specs.Pick.{if}
-use Rattle.telegram.proofs.Answers.{DataStart, data-start, starts-true, content-whole, code-known, Answered, sd1, sd2, sd3}
+use Rattle.telegram.proofs.Answers.{DataStart, data-start, starts-true, Content, content-whole, content-answered, answer-content, code-known, Answered, sd1, sd2, sd3}
 use Rattle.telegram.proofs.ReadingLaws.{reason}
 use Rattle.telegram.specs.Frames.{Framing, frameIs, frameIncomplete, frameRefused, shownFrame, frameAt, framingAt, framingLengths, framingData, framingOf, sealedOf}
 use Rattle.telegram.specs.Leaves.{framingLong, readingOf}
-use Rattle.telegram.specs.Reading.{whole, incomplete, refused, codeOf, frameOf, lengthsOf, dataOf, startsData, readOf}
+use Rattle.telegram.specs.Reading.{whole, incomplete, refused, sapsAt, telegramAt, codeOf, frameOf, lengthsOf, dataOf, startsData, readOf}
 use Rattle.telegram.specs.declared.frame.Frame.{Frame}
 use Rattle.telegram.specs.declared.frame.FrameFound.{FrameFound}
 use Rattle.telegram.specs.declared.frame.FrameFound.the-variants as frameFound
@@ -255,3 +259,45 @@ framed-of {s} (sd3 h q (code-known fc g e (content-whole f a b))) =
 
 pub data-framed : (s : List ℕ) {d : DataTelegram} {n : ℕ} → readOf s ≡ whole (Data d) n → DataFramed s n
 data-framed s e = framed-of (reason s e)
+
+-- A data telegram that is read where a frame was found is that frame's, under the code of its byte, and sealed.
+pub record FramedData (s : List ℕ) (f : Frame) (d : DataTelegram) (n : ℕ) : Type 0 where
+  pub code : FunctionCode
+  pub is : d ≡ telegramAt s (f .at) (f .len) code
+  pub total : n ≡ f .total
+  pub sealed : sealedOf f s ≡ true
+
+module _ (s : List ℕ) (f : Frame) where
+  content-data :
+      FrameFits s f → (fc : FunctionCode) {d : DataTelegram} {n : ℕ} → Content s (f .at) (f .len) fc (whole (Data d) n)
+      → FramedData s f d n
+  content-data fits fc (content-whole h a b) =
+      record {
+        code = fc;
+        is = refl;
+        total = fits .counted;
+        sealed = sealed-found s f fits ∙ rw (eq-eqb _ _ b, eq-eqb _ _ a);
+      }
+
+  code-data :
+      FrameFits s f → (x : FunctionCodeFound) {d : DataTelegram} {n : ℕ} → codeOf s (f .at) (f .len) x ≡ whole (Data d) n
+      → FramedData s f d n
+  code-data fits (codeFound.Is fc) e = content-data fits fc (rw e at (content-answered s (f .at) (f .len) fc))
+  code-data fits codeFound.Nothing e = absurd (zero-one cc)
+
+  pub framed-data : framingOf s ≡ frameIs f → {d : DataTelegram} {n : ℕ} → readOf s ≡ whole (Data d) n → FramedData s f d n
+  framed-data e q = code-data (found-frame s f e) (functionCodeOf (f .code)) (sym (frame-reads s f e) ∙ q)
+
+  -- The other way: a sealed frame with room for its SAPs is read, where its byte is one of a code.
+  pub sealed-reads :
+      framingOf s ≡ frameIs f → sealedOf f s ≡ true → 3 + sapsAt s (f .at) ≤ f .len
+      → (fc : FunctionCode) → functionCodeOf (f .code) ≡ codeFound.Is fc
+      → readOf s ≡ whole (Data (telegramAt s (f .at) (f .len) fc)) (f .total)
+  sealed-reads e sealed saps fc known =
+      let fits = found-frame s f e in
+      let last = eqb (byteAt s (f .at + f .len + 1)) ED in
+      let sum = eqb (byteAt s (f .at + f .len)) (checksumOf (part s (f .at) (f .at + f .len))) in
+      let both : if last sum false ≡ true = sym (sealed-found s f fits) ∙ sealed in
+      frame-reads s f e ∙ ap (codeOf s (f .at) (f .len)) known
+      ∙ answer-content (content-whole saps (eqb-true _ _ (both-second last sum both)) (eqb-true _ _ (both-first last sum both)))
+      ∙ ap (whole (Data (telegramAt s (f .at) (f .len) fc))) (fits .counted)

@@ -6,6 +6,7 @@ use Rattle.telegram_tx.proofs.WritingLaws.{shown-writing-injective}
 use Rattle.telegram_tx.proofs.tx.TelegramTxResponse.bytes_sent as bytesSent
 use Rattle.telegram_tx.proofs.tx.TelegramTxResponse.expects_reply as expectsReply
 use Rattle.telegram_tx.proofs.tx.TelegramTxResponse.new as newResponse
+use Rattle.telegram_tx.proofs.tx.send_coded_telegram as sendCodedTelegram
 use Rattle.telegram_tx.proofs.tx.send_data_telegram as sendDataTelegram
 use Rattle.telegram_tx.proofs.tx.send_fdl_status_request as sendFdlStatusRequest
 use Rattle.telegram_tx.proofs.tx.send_fdl_status_response as sendFdlStatusResponse
@@ -14,6 +15,7 @@ use Rattle.telegram_tx.proofs.tx.send_token_telegram as sendTokenTelegr
 
 pub record Calls : Type 0 where
   pub sendDataTelegram : Determined sendDataTelegram.ended sendDataTelegram.Reads.Learnt
+  pub sendCodedTelegram : Determined sendCodedTelegram.ended sendCodedTelegram.Reads.Learnt
   pub sendTokenTelegram : Determined sendTokenTelegram.ended sendTokenTelegram.Reads.Learnt
   pub sendShortConfirmation : Determined sendShortConfirmation.ended sendShortConfirmation.Reads.Learnt
   pub sendFdlStatusRequest : Determined sendFdlStatusRequest.ended sendFdlStatusRequest.Reads.Learnt
@@ -26,6 +28,7 @@ pub determined : Calls
 determined =
     record {
       sendDataTelegram = wrote (λ κs. shown-writing-injective) (λ κs a u v p i. (tt, (tt, (p i, tt))));
+      sendCodedTelegram = wrote (λ κs. shown-writing-injective) (λ κs a u v p i. (tt, (tt, (p i, tt))));
       sendTokenTelegram = wrote (λ κs. shown-writing-injective) (λ κs a u v p i. (tt, (tt, (p i, tt))));
       sendShortConfirmation = wrote (λ κs. shown-writing-injective) (λ κs a u v p i. (p i, tt));
       sendFdlStatusRequest = wrote (λ κs. shown-writing-injective) (λ κs a u v p i. (tt, (tt, (p i, tt))));

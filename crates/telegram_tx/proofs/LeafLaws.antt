@@ -12,9 +12,9 @@ use Rattle.ground.proofs.StoreLaws.{stores-then, stores-front}
 use Rattle.codes.proofs.ChecksumLaws.{sum-append, summed-from-0}
 use Rattle.codes.specs.Checksums.{sumOf, checksumOf}
 use Rattle.codes.specs.Delimiters.{ED}
-use Rattle.telegram.specs.Picture.{headBytes, coveredBytes, lengthByte, startBytes, telegramBytes}
-use Rattle.telegram.specs.declared.header.DataTelegramHeader.{DataTelegramHeader}
-use Rattle.telegram_tx.specs.Leaves.{Stored, Covers, Fitted, cramped, fitting}
+use Rattle.telegram.specs.Picture.{startBytes}
+use Rattle.telegram_tx.specs.Leaves.{Stored, Covers, Fitted, cramped, fitting, codedHead, codedLength, codedBytes}
+use Rattle.telegram_tx.specs.declared.coded.CodedHeader.{CodedHeader}
 use Rattle.telegram_tx.specs.declared.put.Place.{Place}
 
 -- Stores that are written out.
@@ -94,14 +94,14 @@ part-stored b at p part h e =
 
 -- The parts of a data telegram, written one behind the other, are the telegram.
 pub telegram-stored :
-    {b b₁ b₂ b₃ b₄ : List ℕ} {at end : ℕ} {m e : Place} (h : DataTelegramHeader) (pdu : List ℕ)
-    → Stored b 0 (startBytes (lengthByte h pdu)) at b₁
-    → Covers b₁ (record { at = at; sum = 0 }) (headBytes h) m b₂
+    {b b₁ b₂ b₃ b₄ : List ℕ} {at end : ℕ} {m e : Place} (h : CodedHeader) (pdu : List ℕ)
+    → Stored b 0 (startBytes (codedLength h pdu)) at b₁
+    → Covers b₁ (record { at = at; sum = 0 }) (codedHead h) m b₂
     → Covers b₂ m pdu e b₃
     → Stored b₃ (e .at) (e .sum ∷ ED ∷ []) end b₄
-    → Stored b 0 (telegramBytes h pdu) end b₄
-unfolding telegramBytes coveredBytes
+    → Stored b 0 (codedBytes h pdu) end b₄
+unfolding codedBytes
 telegram-stored {e = e} h pdu start head body tail =
     let covered = covers-then head body in
-    let checksum : e .sum ≡ checksumOf (headBytes h ++ pdu) = covered .sum ∙ summed-from-0 (headBytes h ++ pdu) in
+    let checksum : e .sum ≡ checksumOf (codedHead h ++ pdu) = covered .sum ∙ summed-from-0 (codedHead h ++ pdu) in
     rw (← checksum) (stored-then (stored-then start (covered .stored)) tail)

@@ -1,7 +1,8 @@
--- Laws of a telegram's start, and of how long its head, its start and the whole are.
+-- Laws of a telegram's start, and of how long its head, its start and the whole are: of a header whose function code is a byte, and so of
+-- any header (`telegram-coded`).
 use Prim.Native.Nat.{ℕ, _+_, _≤_}
-use mathlib.Core.Path.{_≡_}
-use mathlib.Core.List.{List, [], _∷_}
+use mathlib.Core.Path.{_≡_, refl, _∙_}
+use mathlib.Core.List.{List, [], _∷_, _++_}
 use native.Mathlib.Omega.{arith}
 use lib.Dec.{eqb, lit≤}
 use lib.ListN.{length, length-append}
@@ -10,22 +11,38 @@ use Rattle.ground.proofs.PickLaws.{picked}
 use Rattle.codes.specs.Delimiters.{SD1, SD2, SD3}
 use Rattle.telegram.specs.Picture.{sapBytes, headBytes, coveredBytes, lengthByte, startBytes, telegramBytes}
 use Rattle.telegram.specs.declared.header.DataTelegramHeader.{DataTelegramHeader}
+use Rattle.telegram_tx.specs.Leaves.{codedOf, codedHead, codedLength, codedBytes}
+use Rattle.telegram_tx.specs.declared.coded.CodedHeader.{CodedHeader}
+
+-- What the leaves write is the picture's.
+pub length-coded : (h : DataTelegramHeader) (pdu : List ℕ) → lengthByte h pdu ≡ codedLength (codedOf h) pdu
+unfolding lengthByte coveredBytes headBytes codedLength codedHead
+length-coded h pdu = refl
+
+pub telegram-coded : (h : DataTelegramHeader) (pdu : List ℕ) → telegramBytes h pdu ≡ codedBytes (codedOf h) pdu
+unfolding telegramBytes lengthByte coveredBytes headBytes codedBytes codedLength codedHead
+telegram-coded h pdu = refl
 
 pub head-length :
-    (h : DataTelegramHeader)
-    → length (headBytes h) ≡ 3 + length (sapBytes (h .dsap)) + length (sapBytes (h .ssap))
-unfolding headBytes
+    (h : CodedHeader)
+    → length (codedHead h) ≡ 3 + length (sapBytes (h .dsap)) + length (sapBytes (h .ssap))
+unfolding codedHead
 head-length h = rw length-append (omega arith)
 
-pub length-byte-split : (h : DataTelegramHeader) (pdu : List ℕ) → lengthByte h pdu ≡ length (headBytes h) + length pdu
-unfolding lengthByte coveredBytes
-length-byte-split h pdu = length-append (headBytes h) pdu
+pub coded-length-split : (h : CodedHeader) (pdu : List ℕ) → codedLength h pdu ≡ length (codedHead h) + length pdu
+unfolding codedLength
+coded-length-split h pdu = length-append (codedHead h) pdu
 
 -- "Length byte = PDU + SAPs + 3"
+pub coded-length-is :
+    (h : CodedHeader) (pdu : List ℕ)
+    → codedLength h pdu ≡ length pdu + length (sapBytes (h .dsap)) + length (sapBytes (h .ssap)) + 3
+coded-length-is h pdu = rw (coded-length-split, head-length) (omega arith)
+
 pub length-byte-is :
     (h : DataTelegramHeader) (pdu : List ℕ)
     → lengthByte h pdu ≡ length pdu + length (sapBytes (h .dsap)) + length (sapBytes (h .ssap)) + 3
-length-byte-is h pdu = rw (length-byte-split, head-length) (omega arith)
+length-byte-is h pdu = length-coded h pdu ∙ coded-length-is (codedOf h) pdu
 
 -- The start of each length, and what holds of all three holds of any start.
 pub start-3 : (l : ℕ) → l ≡ 3 → startBytes l ≡ SD1 ∷ []
@@ -53,11 +70,18 @@ start-short : (l : ℕ) → length (startBytes l) ≤ 4
 start-short l = any-start (λ s. length s ≤ 4) l (lit≤ tt) (lit≤ tt) (lit≤ tt)
 
 -- "Totals: SD1 6, SD3 14, SD2 L + 6": the start, what the length byte counts, the checksum and the end delimiter.
+pub coded-bytes-length :
+    (h : CodedHeader) (pdu : List ℕ)
+    → length (codedBytes h pdu) ≡ length (startBytes (codedLength h pdu)) + codedLength h pdu + 2
+unfolding codedBytes codedLength
+coded-bytes-length h pdu =
+    let covered : List ℕ = codedHead h ++ pdu in
+    rw (length-append (startBytes (codedLength h pdu) ++ covered), length-append (startBytes (codedLength h pdu)) covered)
+
 pub telegram-length :
     (h : DataTelegramHeader) (pdu : List ℕ)
     → length (telegramBytes h pdu) ≡ length (startBytes (lengthByte h pdu)) + lengthByte h pdu + 2
-unfolding telegramBytes lengthByte
-telegram-length h pdu = rw (length-append, length-append)
+telegram-length h pdu = rw (telegram-coded, length-coded) (coded-bytes-length (codedOf h) pdu)
 
 -- A telegram that may be written is at most 255 bytes long.
 pub telegram-short : (h : DataTelegramHeader) (pdu : List ℕ) → lengthByte h pdu ≤ 249 → length (telegramBytes h pdu) ≤ 255

@@ -7,6 +7,8 @@ pub mod Samples
 pub mod Determined
 -- laws of the answer of writing and of the buffer that is left
 pub mod WritingLaws
+-- writing by a header whose function code is a byte
+mod CodedLaws
 -- how long a telegram's parts are; that all of it is bytes
 pub mod LengthLaws
 pub mod ByteLaws

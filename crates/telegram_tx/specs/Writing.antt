@@ -1,4 +1,5 @@
--- Document 01, "Writing": the answer of each call that writes a telegram, `writeOf`, and the whole buffer that it leaves, `bufferOf`.
+-- Document 01, "Writing": the answer of each call that writes a telegram, `writeOf`, and the whole buffer that it leaves, `bufferOf`; the
+-- same where the function code comes as a byte, `writeFound` and `bufferFound`.
 use Prim.Native.Nat.{ℕ}
 use mathlib.Core.Bool.{_||_}
 use mathlib.Core.List.{List, _++_}
@@ -12,6 +13,8 @@ use Rattle.ground.specs.declared.address.Address.{Address}
 use Rattle.codes.specs.declared.frame_count_bit.FrameCountBit.the-variants.{Inactive}
 use Rattle.codes.specs.declared.function_code.FunctionCode.{FunctionCode}
 use Rattle.codes.specs.declared.function_code.FunctionCode.the-variants.{Request, Response}
+use Rattle.codes.specs.declared.function_code.FunctionCodeFound.{FunctionCodeFound}
+use Rattle.codes.specs.declared.function_code.FunctionCodeFound.the-variants.{Is, Nothing}
 use Rattle.codes.specs.declared.request_type.RequestType.the-variants.{FdlStatus}
 use Rattle.codes.specs.declared.response.ResponseState.{ResponseState}
 use Rattle.codes.specs.declared.response.ResponseStatus.{ResponseStatus}
@@ -20,6 +23,7 @@ use Rattle.telegram.specs.declared.header.AddressOption.{AddressOption}
 use Rattle.telegram.specs.declared.header.AddressOption.the-variants.{Some, None}
 use Rattle.telegram.specs.declared.header.DataTelegramHeader.{DataTelegramHeader}
 use Rattle.telegram.specs.declared.header.SapOption.the-variants as sapOption
+use Rattle.telegram_tx.specs.declared.coded.CodedHeader.{CodedHeader}
 use Rattle.telegram_tx.specs.declared.tx.TelegramTxResponse.{TelegramTxResponse}
 use Rattle.telegram_tx.specs.declared.tx.TelegramTxResult.{TelegramTxResult}
 use Rattle.telegram_tx.specs.declared.tx.TelegramTxResult.the-variants.{Sent, Refused}
@@ -61,6 +65,20 @@ leftOf (refused n) t buf = buf
 -- after a data telegram
 abbrev pub bufferOf : DataTelegramHeader → List ℕ → List ℕ → List ℕ
 bufferOf h pdu buf = leftOf (writeOf h pdu (length buf)) (telegramBytes h pdu) buf
+
+-- a header whose function code comes as a byte, with a code in the byte's place
+abbrev pub decoded : CodedHeader → FunctionCode → DataTelegramHeader
+decoded h fc = record { da = h .da; sa = h .sa; dsap = h .dsap; ssap = h .ssap; fc = fc }
+
+-- such a header's telegram, by what its byte is read as: 4 where it is no function code, before 8, 9 and 10
+abbrev pub writeFound : FunctionCodeFound → CodedHeader → List ℕ → ℕ → OrRefused TelegramTxResponse
+writeFound (Is fc) h pdu room = writeOf (decoded h fc) pdu room
+writeFound Nothing h pdu room = refused 4
+
+-- and the buffer after it
+abbrev pub bufferFound : FunctionCodeFound → CodedHeader → List ℕ → List ℕ → List ℕ
+bufferFound (Is fc) h pdu buf = bufferOf (decoded h fc) pdu buf
+bufferFound Nothing h pdu buf = buf
 
 -- after a token
 abbrev pub tokenBufferOf : Address → Address → List ℕ → List ℕ

@@ -1,10 +1,13 @@
 // Writing telegrams: profirust's `TelegramTx`, into a buffer that the caller lends.
+pub mod coded;
 mod put;
 mod serialize;
 pub mod tx;
 
+pub use coded::CodedHeader;
 pub use tx::TelegramTxResponse;
 pub use tx::TelegramTxResult;
+pub use tx::send_coded_telegram;
 pub use tx::send_data_telegram;
 pub use tx::send_fdl_status_request;
 pub use tx::send_fdl_status_response;

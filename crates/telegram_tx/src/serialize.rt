@@ -1,12 +1,13 @@
-// A data telegram, written part by part. Promise, among private functions: `Fitted` in specs/Leaves.antt, of `telegramBytes`.
+// A data telegram, written part by part, its function code by a byte. Promise, among private functions: `Fitted` in specs/Leaves.antt, of
+// `codedBytes`.
 ghost use mathlib.Core.Path.{_≡_};
 ghost use mathlib.Core.List.{[], _∷_};
 ghost use Prim.Native.Nat.{_+_, _≤_};
 ghost use lib.ListN.{length};
-ghost use Rattle.codes.specs.FunctionCodes.{codeByte};
 ghost use Rattle.codes.specs.Delimiters.{ED, SD2};
-ghost use Rattle.telegram.specs.Picture.{addressByte, sapBytes, headBytes, lengthByte, startBytes, telegramBytes};
-ghost use Rattle.telegram_tx.specs.Leaves.{Stored, Covers, Fitted, Writable};
+ghost use Rattle.telegram.specs.Picture.{addressByte, sapBytes, startBytes};
+ghost use Rattle.telegram_tx.specs.Leaves.{Stored, Covers, Fitted, Writable, codedHead, codedLength, codedBytes};
+use crate::coded::CodedHeader;
 use crate::put::Place;
 use crate::put::put_address;
 use crate::put::put_byte;
@@ -16,7 +17,6 @@ use codes::consts::ED;
 use codes::consts::SD1;
 use codes::consts::SD2;
 use codes::consts::SD3;
-use telegram::DataTelegramHeader;
 use telegram::SapOption;
 
 fn sap_length(sap: SapOption) -> usize
@@ -28,8 +28,8 @@ fn sap_length(sap: SapOption) -> usize
     }
 }
 
-pub(crate) fn length_byte(header: DataTelegramHeader, pdu: &[u8]) -> usize
-    ensures { λ r. ⌜ r ≡ lengthByte header (now (pdu .entry)) ⌝ }
+pub(crate) fn length_byte(header: CodedHeader, pdu: &[u8]) -> usize
+    ensures { λ r. ⌜ r ≡ codedLength header (now (pdu .entry)) ⌝ }
 {
     let dsap = header.dsap;
     let ssap = header.ssap;
@@ -78,23 +78,22 @@ fn put_lengths(buf: &mut [u8], l: u8) -> usize
 }
 
 // da, sa and fc.
-fn put_fixed(buf: &mut [u8], place: Place, header: DataTelegramHeader) -> Place
+fn put_fixed(buf: &mut [u8], place: Place, header: CodedHeader) -> Place
     requires { ⌜ (header .da .0 ≤ 127) × (header .sa .0 ≤ 127) × (place .at + 3 ≤ length (now buf)) ⌝ }
     ensures { λ r. ⌜ Covers (now (buf .entry)) place
-        (addressByte (header .da .0) (header .dsap) ∷ addressByte (header .sa .0) (header .ssap) ∷ codeByte (header .fc) ∷ [])
+        (addressByte (header .da .0) (header .dsap) ∷ addressByte (header .sa .0) (header .ssap) ∷ header .code ∷ [])
         r (now (buf .exit)) ⌝ }
 {
     let dsap = header.dsap;
     let ssap = header.ssap;
-    let fc = header.fc;
     let after_da = put_address(buf, place, header.da, dsap);
     let after_sa = put_address(buf, after_da, header.sa, ssap);
-    put_byte(buf, after_sa, fc.to_byte())
+    put_byte(buf, after_sa, header.code)
 }
 
-fn put_head(buf: &mut [u8], place: Place, header: DataTelegramHeader) -> Place
-    requires { ⌜ (header .da .0 ≤ 127) × (header .sa .0 ≤ 127) × (place .at + length (headBytes header) ≤ length (now buf)) ⌝ }
-    ensures { λ r. ⌜ Covers (now (buf .entry)) place (headBytes header) r (now (buf .exit)) ⌝ }
+fn put_head(buf: &mut [u8], place: Place, header: CodedHeader) -> Place
+    requires { ⌜ (header .da .0 ≤ 127) × (header .sa .0 ≤ 127) × (place .at + length (codedHead header) ≤ length (now buf)) ⌝ }
+    ensures { λ r. ⌜ Covers (now (buf .entry)) place (codedHead header) r (now (buf .exit)) ⌝ }
 {
     let dsap = header.dsap;
     let ssap = header.ssap;
@@ -114,10 +113,10 @@ fn put_end(buf: &mut [u8], place: Place) -> usize
 }
 
 // Writes a data telegram with length byte l at the buffer's front, and gives its length. Where it has no room nothing is written, and 0 given.
-pub(crate) fn serialize(header: DataTelegramHeader, pdu: &[u8], l: usize, buf: &mut [u8]) -> usize
+pub(crate) fn serialize(header: CodedHeader, pdu: &[u8], l: usize, buf: &mut [u8]) -> usize
     requires { ⌜ Writable header (now pdu) l ⌝ }
-    ensures { λ r. ⌜ Fitted (now (buf .entry)) (length (telegramBytes header (now (pdu .entry))))
-        (telegramBytes header (now (pdu .entry))) r (now (buf .exit)) ⌝ }
+    ensures { λ r. ⌜ Fitted (now (buf .entry)) (length (codedBytes header (now (pdu .entry))))
+        (codedBytes header (now (pdu .entry))) r (now (buf .exit)) ⌝ }
 {
     let at = put_start(buf, l);
     if at == 0 {

@@ -1,14 +1,21 @@
 // The calls that write a telegram into a lent buffer: the Rust's `TelegramTx`. Promise: `writeOf` and `bufferOf` in specs/Writing.antt,
-// and their twins for a token and a short confirmation.
+// and their twins for a code that comes as a byte, a token and a short confirmation.
 ghost use mathlib.Core.Path.{_≡_};
 ghost use mathlib.Core.List.{[]};
 ghost use Prim.Native.Nat.{_≤_};
 ghost use lib.ListN.{length};
-ghost use Rattle.telegram_tx.specs.Writing.{shownWriting, replyOf, writeOf, bufferOf, writeTokenOf, tokenBufferOf, writeConfirmationOf, confirmationBufferOf, plainHeader, statusRequest, statusResponse};
+ghost use Rattle.codes.specs.FunctionCodes.{functionCodeOf};
+ghost use Rattle.ground.specs.Pick.{if};
+ghost use Rattle.telegram_tx.specs.Leaves.{Sends};
+ghost use Rattle.telegram_tx.specs.Writing.{shownWriting, replyOf, writeOf, bufferOf, writeFound, bufferFound, writeTokenOf, tokenBufferOf, writeConfirmationOf, confirmationBufferOf, plainHeader, statusRequest, statusResponse};
+use crate::coded::CodedHeader;
+use crate::coded::coded_of;
+use crate::coded::kept;
 use crate::serialize::length_byte;
 use crate::serialize::serialize;
 use codes::FrameCountBit;
 use codes::FunctionCode;
+use codes::ReplyFound;
 use codes::RequestType;
 use codes::ResponseState;
 use codes::ResponseStatus;
@@ -50,7 +57,8 @@ impl TelegramTxResponse {
     }
 }
 
-// What was written, or a refusal of 8, 9 or 10. (The Rust panics where this refuses.)
+// What was written, or a refusal of 4, 8, 9 or 10. (The Rust takes no byte for a function code, so it has no 4; where this refuses with
+// another it panics.)
 pub enum TelegramTxResult {
     Sent(TelegramTxResponse),
     Refused(Refusal),
@@ -75,10 +83,14 @@ fn reply_of(da: Address, fc: FunctionCode) -> AddressOption
 }
 
 // A data telegram whose addresses are fit for it.
-fn send_addressed(header: DataTelegramHeader, pdu: &[u8], buf: &mut [u8]) -> TelegramTxResult
+fn send_addressed(
+    header: CodedHeader,
+    expects_reply: AddressOption,
+    pdu: &[u8],
+    buf: &mut [u8],
+) -> TelegramTxResult
     requires { ⌜ (header .da .0 ≤ 127) × (header .sa .0 ≤ 127) ⌝ }
-    ensures { λ r. ⌜ (shownWriting r ≡ writeOf header (now (pdu .entry)) (length (now (buf .entry))))
-        × (now (buf .exit) ≡ bufferOf header (now (pdu .entry)) (now (buf .entry))) ⌝ }
+    ensures { λ r. ⌜ Sends header «expects_reply» (now (pdu .entry)) (now (buf .entry)) r (now (buf .exit)) ⌝ }
 {
     let l = length_byte(header, pdu);
     if 249 < l {
@@ -88,10 +100,27 @@ fn send_addressed(header: DataTelegramHeader, pdu: &[u8], buf: &mut [u8]) -> Tel
     if bytes_sent == 0 {
         return TelegramTxResult::Refused(Refusal::NoRoom);
     }
-    let replier = header.da;
-    let fc = header.fc;
-    let expects_reply = reply_of(replier, fc);
     TelegramTxResult::Sent(TelegramTxResponse::new(bytes_sent, expects_reply))
+}
+
+// A data telegram by the byte of its function code, once it is known that the byte is one and who is to answer.
+fn send_coded(
+    header: CodedHeader,
+    expects_reply: AddressOption,
+    pdu: &[u8],
+    buf: &mut [u8],
+) -> TelegramTxResult
+    ensures { λ r. ⌜ Sends header «expects_reply» (now (pdu .entry)) (now (buf .entry)) r (now (buf .exit)) ⌝ }
+{
+    let da = header.da;
+    let sa = header.sa;
+    if 127 < da.0 {
+        return TelegramTxResult::Refused(Refusal::AddressTooLarge);
+    }
+    if 127 < sa.0 {
+        return TelegramTxResult::Refused(Refusal::AddressTooLarge);
+    }
+    send_addressed(header, expects_reply, pdu, buf)
 }
 
 // The PDU goes straight into the buffer behind the header: the Rust's closure becomes its bytes.
@@ -104,14 +133,30 @@ pub fn send_data_telegram(
         × (now (buf .exit) ≡ bufferOf header (now (pdu .entry)) (now (buf .entry))) ⌝ }
 {
     let da = header.da;
-    let sa = header.sa;
-    if 127 < da.0 {
-        return TelegramTxResult::Refused(Refusal::AddressTooLarge);
+    let fc = header.fc;
+    let expects_reply = reply_of(da, fc);
+    send_coded(coded_of(header), expects_reply, pdu, buf)
+}
+
+fn reply_from(da: Address, expected: bool) -> AddressOption
+    ensures { λ r. ⌜ r ≡ if expected (AddressOption.Some da) AddressOption.None ⌝ }
+{
+    if expected {
+        return AddressOption::Some(da);
     }
-    if 127 < sa.0 {
-        return TelegramTxResult::Refused(Refusal::AddressTooLarge);
-    }
-    send_addressed(header, pdu, buf)
+    AddressOption::None
+}
+
+// A data telegram whose function code comes as a byte: the byte is tested and passed on, never decoded.
+pub fn send_coded_telegram(header: CodedHeader, pdu: &[u8], buf: &mut [u8]) -> TelegramTxResult
+    ensures { λ r. ⌜ (shownWriting r ≡ writeFound (functionCodeOf (header .code)) header (now (pdu .entry)) (length (now (buf .entry))))
+        × (now (buf .exit) ≡ bufferFound (functionCodeOf (header .code)) header (now (pdu .entry)) (now (buf .entry))) ⌝ }
+{
+    let ReplyFound::Is(expected) = FunctionCode::reply_to_byte(header.code) else {
+        return TelegramTxResult::Refused(Refusal::FunctionCode);
+    };
+    let expects_reply = reply_from(header.da, expected);
+    send_coded(kept(header), expects_reply, pdu, buf)
 }
 
 // Whole bytes: a token's addresses are not tested.

@@ -10,7 +10,7 @@ use Rattle.link_model.specs.Initiator.{Initiator, InitiatorTurn, Phase, 
 use Rattle.demand_3.specs.Safe.{triesOf, Safe}
 use Rattle.demand_3.specs.Demand.{Demand}
 use Rattle.link_model.specs.Ours.{AnyInitiator, initiatorBy, ourInitiator, ourResponder}
-use Rattle.link_model.proofs.Scenes.{Doing, order as orders, silence, headRestarts, answer, toCabinet, toHead, shortHead, whole, andRefused, andEchoed, andOrdered, P, ends, unsafe, unopened, unanswered, unwritten}
+use Rattle.link_model.proofs.Scenes.{Doing, order as orders, silence, headRestarts, answer, toCabinet, toHead, shortHead, whole, andRefused, andEchoed, andOrdered, P, ends, unsafe, untaken, unopened, unanswered, unwritten}
 use Rattle.link_model.proofs.Wrong.Tools.{one-try, two-tries, never-done, done-twice, sent-yet, other-reply, other-tries, second-outcome}
 
 -- the demand is refuted for this head end
@@ -377,3 +377,55 @@ muteOnceRestarted =
 pub mute-once-restarted : Refuted muteOnceRestarted
 mute-once-restarted =
     unwritten isOpening muteOnceRestarted ourResponder 2 two-tries (headRestarts ∷ []) (1 ∷ []) (7 ∷ []) [] tt refl refl tt (λ x. x)
+
+-- it takes no order; none any more once it was restarted; and none on an open link
+pub refuses-every-order : Refuted (submitting (λ i q. refusing i))
+refuses-every-order d = d .takes 2 two-tries [] tt true (1 ∷ []) refl refl refl
+
+abbrev unlessMarked : Bool → Initiator → InitiatorTurn → Turn Marked Message Outcome
+unlessMarked true i t = refusing (i, true)
+unlessMarked false i t = marked false t
+
+abbrev refusesOnceRestarted : AnyInitiator Message
+refusesOnceRestarted =
+    initiatorBy (λ n. (newInitiator n, false)) (λ i q. unlessMarked (i .1) (i .0) (submitOf (i .0) q)) (λ i. marked (i .1) (silenceOf (i .0)))
+    (λ i m. marked (i .1) (hearOf (i .0) m)) (λ i. marked true (restartOf (i .0)))
+
+pub refuses-once-restarted : Refuted refusesOnceRestarted
+refuses-once-restarted = untaken isOpening refusesOnceRestarted ourResponder 2 two-tries (headRestarts ∷ []) (1 ∷ []) refl (λ x. x)
+
+abbrev whenClosed : Phase → Initiator → Bytes → InitiatorTurn
+whenClosed closed i q = submitOf i q
+whenClosed (ready b) i q = refusing i
+whenClosed (openingPhase p k) i q = submitOf i q
+whenClosed (orderPhase b p k) i q = submitOf i q
+
+pub refuses-on-an-open-link : Refuted (submitting (λ i q. whenClosed (i .phase) i q))
+refuses-on-an-open-link =
+    untaken isOpening _ ourResponder 2 two-tries (first (answer (7 ∷ []) ∷ toHead ∷ [])) (2 ∷ []) refl (λ x. x)
+
+-- restarted in the opening's phase it reports not sent, and yet sends the order when the opening's reply, in flight all the
+-- while, is heard; else it is as if closed
+abbrev awaitsYet : Bool → Phase → Initiator → Turn Marked Message Outcome
+awaitsYet true p i = record { next = (i, true); writes = none; says = nothing }
+awaitsYet false closed i = marked false (restartOf i)
+awaitsYet false (ready b) i = marked false (restartOf i)
+awaitsYet false (openingPhase q k) i = record { next = (i, true); writes = none; says = tells (notSent k) }
+awaitsYet false (orderPhase b q k) i = marked false (restartOf i)
+
+abbrev asClosed : Bool → Initiator → Initiator
+asClosed true i = newInitiator (i .tries)
+asClosed false i = i
+
+abbrev yetSilent : Bool → Initiator → Turn Marked Message Outcome
+yetSilent true i = record { next = (i, true); writes = none; says = nothing }
+yetSilent false i = marked false (silenceOf i)
+
+abbrev sendsAfterwards : AnyInitiator Message
+sendsAfterwards =
+    initiatorBy (λ n. (newInitiator n, false)) (λ i q. marked false (submitOf (asClosed (i .1) (i .0)) q)) (λ i. yetSilent (i .1) (i .0))
+    (λ i m. marked false (hearOf (i .0) m)) (λ i. awaitsYet (i .1) (i .0 .phase) (i .0))
+
+pub sends-the-order-after-the-restart : Refuted sendsAfterwards
+sends-the-order-after-the-restart =
+    fails sendsAfterwards (orders (1 ∷ []) ∷ toCabinet ∷ headRestarts ∷ toHead ∷ toCabinet ∷ []) sent-yet

@@ -6,14 +6,15 @@ use Rattle.exports_link.proofs.initiator_end.pack.Tie as tie
 
 returns : tie.Need-returns
 returns c =
-    let o = c .before .before .before .before in
+    let y = c .before .before in
+    let o = y .before .before .before .before in
     let t = o .before in
     let l = t .before in
     let n = l .before in
     let u = n .before in
     let p = u .before in
     let f = p .before in
-    c .store .ensures
+    y .store .ensures
     ∙ rw (
       o .order .ensures,
       t .tries .ensures,
@@ -27,4 +28,4 @@ returns c =
     )
 
 pub pack-spec : {M : Type 1} → statement M
-pack-spec = tie.close (tie.spec (λ c κs. search needs) (λ c κs. search needs) (λ c κs. search needs) (λ c κs. search needs) (λ c κs. search needs) (λ c κs. search needs) (λ c κs. search needs) (λ c κs. search needs) (λ c κs. search needs) (λ c. search needs) (λ c. search needs) (λ c κs. search needs) returns)
+pack-spec = tie.close (tie.spec (λ c κs. search needs) (λ c κs. search needs) (λ c κs. search needs) (λ c κs. search needs) (λ c κs. search needs) (λ c κs. search needs) (λ c κs. search needs) (λ c κs. search needs) (λ c κs. search needs) (λ c. search needs) (λ c. search needs) (λ c κs. search needs) (λ c. search needs) returns)

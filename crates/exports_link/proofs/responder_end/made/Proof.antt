@@ -15,10 +15,11 @@ refused c =
 accepted : tie.Need-returns-2
 unfolding newCall
 accepted c =
-    let e = c .before .before in
+    let y = c .before .before in
+    let e = y .before .before in
     let n = e .before .before in
     end-made responderCrosses _ (rw (n .before .before .before .link-of .ensures) at (n .before .before .new .ensures))
-    (rw (← n .number .ensures, ← e .before .is-refusal .ensures, e .if1 .left, c .pack .ensures))
+    (rw (← n .number .ensures, ← e .before .is-refusal .ensures, e .if1 .left, y .pack .ensures))
 
 pub made-spec : {M : Type 1} → statement M
-made-spec = tie.close (tie.spec (λ c κs. search needs) (λ c κs. search needs) (λ c κs. search needs) (λ c κs. search needs) refused (λ c κs. search needs) accepted)
+made-spec = tie.close (tie.spec (λ c κs. search needs) (λ c κs. search needs) (λ c κs. search needs) (λ c κs. search needs) refused (λ c κs. search needs) (λ c. search needs) accepted)

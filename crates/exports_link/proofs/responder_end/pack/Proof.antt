@@ -6,13 +6,14 @@ use Rattle.exports_link.proofs.responder_end.pack.Tie as tie
 
 returns : tie.Need-returns
 returns c =
-    let h = c .before .before .before .before in
+    let y = c .before .before in
+    let h = y .before .before .before .before in
     let l = h .before in
     let n = l .before in
     let s = n .before in
     let f = s .before in
     let w = f .before in
-    c .store .ensures
+    y .store .ensures
     ∙ rw (
       h .held .ensures,
       l .length-byte .ensures,
@@ -25,4 +26,4 @@ returns c =
     )
 
 pub pack-spec : {M : Type 1} → statement M
-pack-spec = tie.close (tie.spec (λ c κs. search needs) (λ c κs. search needs) (λ c κs. search needs) (λ c κs. search needs) (λ c κs. search needs) (λ c κs. search needs) (λ c κs. search needs) (λ c κs. search needs) (λ c. search needs) (λ c. search needs) (λ c κs. search needs) returns)
+pack-spec = tie.close (tie.spec (λ c κs. search needs) (λ c κs. search needs) (λ c κs. search needs) (λ c κs. search needs) (λ c κs. search needs) (λ c κs. search needs) (λ c κs. search needs) (λ c κs. search needs) (λ c. search needs) (λ c. search needs) (λ c κs. search needs) (λ c. search needs) returns)

@@ -1,29 +1,24 @@
--- `koy_write_data` meets its contract: a byte that is no function code is 4; else the answer and the buffer are the writer's.
+-- `koy_write_data` meets its contract: answer and buffer are the writer's, which tests the function code's byte.
+use Rattle.codes.specs.FunctionCodes.{functionCodeOf}
+use Rattle.exports_telegrams.proofs.WriteLaws.{coded-of}
 use Rattle.exports_telegrams.specs.Write.{koyWriteData}
 use borrow.Author.Needs.{needs}
 use Rattle.exports_telegrams.proofs.writing.koy_write_data.Statement.{statement}
 use Rattle.exports_telegrams.proofs.writing.koy_write_data.Tie as tie
 
-no-code : tie.Need-returns
+returns : tie.Need-returns
 unfolding koyWriteData
-no-code c =
-    let e = c .before in
-    rw (← e .before .before .from-byte .ensures, e .enum-told .given .1, c .number .ensures)
-
-written : tie.Need-returns-2
-unfolding koyWriteData
-written c =
+returns c =
     let s = c .before .before .before .before in
     let h = s .before .before in
-    let y = h .before .before in
-    rw (
-      ← y .before .before .from-byte .ensures,
-      y .code .given .1,
-      ← h .header-of .ensures,
-      ← s .send-data-telegram .ensures .1,
-      ← s .send-data-telegram .ensures .0,
-    )
+    let a = h .before .before .before .args in
+    let w = rw (h .header-of .ensures) at (s .send-coded-telegram .ensures) in
+    coded-of (functionCodeOf (a .fc)) (a .da) (a .sa) (a .dsap) (a .ssap) (a .fc) (a .pdu .now) (a .told .now) (a .buf .now)
+    (w .0)
+    (w .1)
     (c .tell .ensures _)
 
 pub koy-write-data-spec : {M : Type 1} → statement M
-koy-write-data-spec = tie.close (tie.spec (λ c κs. search needs) (λ c. search needs) (λ c. search needs) (λ c κs. search needs) no-code (λ c κs. search needs) (λ c κs. search needs) (λ c κs. search needs) (λ c. search needs) written)
+koy-write-data-spec =
+    tie.close
+    (tie.spec (λ c κs. search needs) (λ c κs. search needs) (λ c κs. search needs) (λ c. search needs) returns)

@@ -5,11 +5,11 @@ use Rattle.responder.proofs.moves.send_ok.Statement.{statement}
 use Rattle.responder.proofs.moves.send_ok.Tie as tie
 
 returns : tie.Need-returns
-returns c =
+returns c = λ held.
     let s = c .before .before .before in
     let start = s .before .before .before .before .before .before in
     writes _ _ _ _ _ (start .args .buf .now) _ _ _ (s .before .before .before .ok-header .ensures) (s .send-data-telegram .ensures .0)
-    (s .send-data-telegram .ensures .1) (c .written .ensures _)
+    (s .send-data-telegram .ensures .1) (c .written .ensures held _)
 
 pub send-ok-spec : {M : Type 1} → statement M
 send-ok-spec =

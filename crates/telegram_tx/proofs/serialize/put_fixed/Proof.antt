@@ -6,16 +6,15 @@ use Rattle.telegram_tx.proofs.serialize.put_fixed.Tie as tie
 
 returns : tie.Need-returns
 returns c =
-    let s = c .before .before .before .before .before .before .before in
+    let s = c .before .before .before .before .before .before in
     covers-then
     (covers-then (s .before .before .before .before .put-address .ensures) (s .put-address2 .ensures))
-    (rw (c .before .before .before .to-byte .ensures) at (c .before .before .put-byte .ensures))
+    (c .before .before .put-byte .ensures)
 
 pub put-fixed-spec : {M : Type 1} → statement M
 put-fixed-spec =
     tie.close
     (tie.spec
-    (λ c κs. search needs)
     (λ c κs. search needs)
     (λ c κs. search needs)
     (λ c κs. search needs)

@@ -1,7 +1,7 @@
 -- `put_head` meets its contract: the SAPs stand behind da, sa and fc.
 use native.Mathlib.Omega.{arith}
 use borrow.Author.Needs.{needs}
-use Rattle.telegram.specs.Picture.{headBytes}
+use Rattle.telegram_tx.specs.Leaves.{codedHead}
 use Rattle.telegram_tx.proofs.LengthLaws.{head-length}
 use Rattle.telegram_tx.proofs.LeafLaws.{covers-then}
 use Rattle.telegram_tx.proofs.serialize.put_head.Statement.{statement}
@@ -17,7 +17,7 @@ put-ssap : tie.Need-put-sap-requires-2
 put-ssap c κs = let s = c .before .before .before .before .before .before .before .before .before .before in omega (arith, s .pre .2, head-length (s .args .header))
 
 returns : tie.Need-returns
-unfolding headBytes
+unfolding codedHead
 returns c =
     let d = c .before .before .before .before .before .before in
     covers-then (covers-then (d .before .before .before .before .put-fixed .ensures) (d .put-sap .ensures)) (c .before .before .put-sap2 .ensures)

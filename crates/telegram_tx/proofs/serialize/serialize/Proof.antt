@@ -4,10 +4,9 @@ use Prim.Native.Nat.{_≤_}
 use native.Mathlib.Omega.{arith}
 use lib.ListN.{length}
 use borrow.Author.Needs.{needs}
-use Rattle.telegram.specs.Picture.{telegramBytes}
-use Rattle.telegram_tx.proofs.LengthLaws.{length-byte-split, start-some, telegram-length}
+use Rattle.telegram_tx.proofs.LengthLaws.{coded-length-split, start-some, coded-bytes-length}
 use Rattle.telegram_tx.proofs.LeafLaws.{telegram-stored, zero-cramped, past-zero-fitting}
-use Rattle.telegram_tx.specs.Leaves.{cramped, fitting}
+use Rattle.telegram_tx.specs.Leaves.{cramped, fitting, codedBytes}
 use Rattle.telegram_tx.proofs.serialize.serialize.Statement.{statement}
 use Rattle.telegram_tx.proofs.serialize.serialize.Tie as tie
 
@@ -16,13 +15,13 @@ no-room c =
     let p = c .before .before .before in
     let s = p .before .before .before .before in
     let short = zero-cramped (p .put-start .ensures) (start-some _) (c .if1 .taken) in
-    cramped (rw (telegram-length, ← s .pre .length-is) (short .0)) refl (short .1)
+    cramped (rw (coded-bytes-length, ← s .pre .length-is) (short .0)) refl (short .1)
 
 -- what is known behind the test: the room, and the start in its place
-room : (c : tie.Else1) → length (telegramBytes (c .before .before .before .before .before .before .before .args .header) (c .before .before .before .before .before .before .before .args .pdu .now)) ≤ length (c .before .before .before .before .before .before .before .args .buf .now)
+room : (c : tie.Else1) → length (codedBytes (c .before .before .before .before .before .before .before .args .header) (c .before .before .before .before .before .before .before .args .pdu .now)) ≤ length (c .before .before .before .before .before .before .before .args .buf .now)
 room c =
     let p = c .before .before .before in
-    rw (telegram-length, ← p .before .before .before .before .pre .length-is) (past-zero-fitting (p .put-start .ensures) (c .if1 .left) .0)
+    rw (coded-bytes-length, ← p .before .before .before .before .pre .length-is) (past-zero-fitting (p .put-start .ensures) (c .if1 .left) .0)
 
 put-head-requires : tie.Need-put-head-requires
 put-head-requires c κs =
@@ -34,7 +33,7 @@ put-head-requires c κs =
     let start = rw (s .pre .length-is) at (past-zero-fitting (p .put-start .ensures) (e .if1 .left) .1) in (
       s .pre .destination,
       s .pre .source,
-      omega (arith, start .next-place, room e, telegram-length h pdu, length-byte-split h pdu),
+      omega (arith, start .next-place, room e, coded-bytes-length h pdu, coded-length-split h pdu),
     )
 
 put-pdu-requires : tie.Need-put-pdu-requires
@@ -45,7 +44,7 @@ put-pdu-requires c κs =
     let h = s .args .header in
     let pdu = s .args .pdu .now in
     let start = rw (s .pre .length-is) at (past-zero-fitting (p .put-start .ensures) (e .if1 .left) .1) in
-    omega (arith, start .next-place, room e, telegram-length h pdu, length-byte-split h pdu)
+    omega (arith, start .next-place, room e, coded-bytes-length h pdu, coded-length-split h pdu)
 
 put-end-requires : tie.Need-put-end-requires
 put-end-requires c κs =
@@ -57,7 +56,7 @@ put-end-requires c κs =
     let h = s .args .header in
     let pdu = s .args .pdu .now in
     let start = rw (s .pre .length-is) at (past-zero-fitting (p .put-start .ensures) (e .if1 .left) .1) in
-    omega (arith, start .next-place, p .put-start .kept, b .put-head .ensures .stored .next-place, b .put-head .kept, d .put-pdu .ensures .stored .next-place, d .put-pdu .kept, room e, telegram-length h pdu, length-byte-split h pdu)
+    omega (arith, start .next-place, p .put-start .kept, b .put-head .ensures .stored .next-place, b .put-head .kept, d .put-pdu .ensures .stored .next-place, d .put-pdu .kept, room e, coded-bytes-length h pdu, coded-length-split h pdu)
 
 written : tie.Need-returns-2
 written c =

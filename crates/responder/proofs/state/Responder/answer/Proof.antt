@@ -1,37 +1,32 @@
--- `Responder::answer` meets its contract: the room is asked for first, then the row takes the answer or refuses it.
+-- `Responder::answer` meets its contract: it is the call on its head and its array, which is long enough.
 use borrow.Author.Needs.{needs}
-use mathlib.Core.Path.{sym, _∙_}
-use Rattle.responder.proofs.CallLaws.{answer-short, answer-at}
+use mathlib.Core.Path.{_≡_, _∙_}
+use lib.ListN.{length}
+use Rattle.responder.proofs.CallLaws.{answer-whole}
 use Rattle.responder.proofs.state.Responder.answer.Statement.{statement}
 use Rattle.responder.proofs.state.Responder.answer.Tie as tie
 
-no-room : tie.Need-returns
-no-room c = c .refuse .ensures _ ∙ sym (answer-short _ _ _ (c .before .if1 .taken))
+full : (c : tie.After-held) → length (c .held .result) ≡ 246
+full c = search needs
 
-replied : tie.Need-returns-2
-replied c =
-    let r = c .before .before in
-    let t = r .before .before in
-    let a = t .before .before .before in
-    rw (answer-at _ _ _ (a .before .before .if1 .left), ← a .answer .ensures .0, t .enum-told .given .1) (r .send-reply .ensures)
-
-refused : tie.Need-returns-3
-refused c =
-    let t = c .before .before in
-    let a = t .before .before .before in
-    rw (answer-at _ _ _ (a .before .before .if1 .left), ← a .answer .ensures .0, t .answer2 .given .1) (c .refuse2 .ensures _)
+returns : tie.Need-returns
+returns c =
+    let a = c .before .before .before .before in
+    let k = a .before .before .before in
+    let o = k .before .before in
+    let self = o .before .before .before .args .self in
+    c .rejoined .ensures _
+    ∙ a .answer .ensures
+    ∙ answer-whole self _ _ _ _ (o .head-of .ensures) (k .held .ensures) (full k)
 
 pub answer-spec : {M : Type 1} → statement M
 answer-spec =
     tie.close
     (tie.spec
     (λ c κs. search needs)
-    no-room
     (λ c κs. search needs)
     (λ c. search needs)
     (λ c κs. search needs)
-    (λ c. search needs)
     (λ c κs. search needs)
     (λ c. search needs)
-    replied
-    refused)
+    returns)

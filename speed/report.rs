@@ -93,7 +93,7 @@ fn cases(dumps: &str, times: &Figures, stacks: &Figures, pairs_only: bool) -> Ex
             }
         } else if let (Some(link), Some(telegrams)) = (counts.get(&key("link")), counts.get(&key("telegrams"))) {
             println!("case={case} link={link:.0} telegrams={telegrams:.0} times={:.2}", link / telegrams);
-            if *link > 1.25 * telegrams {
+            if *link > 1.2 * telegrams {
                 short.push(case);
             }
         } else if let Some(ours) = counts.get(&key("ours")) {

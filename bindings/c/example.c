@@ -6,8 +6,15 @@
 
 #include "koyandefa.h"
 
-static uint8_t initiator[KOY_INITIATOR_SIZE];
-static uint8_t responder[KOY_RESPONDER_SIZE];
+static koy_guarded_initiator initiator;
+static koy_guarded_responder responder;
+
+/* the stamps: a count that is stepped at each event will do where both ends are in one program */
+static size_t events;
+static size_t moment(void)
+{
+    return ++events;
+}
 
 /* what stands on the line; an end writes into `out` while it hears `line`, and noise may be longer than what we write */
 static uint8_t line[KOY_LONGEST_TELEGRAM], out[255];
@@ -22,7 +29,7 @@ static void want(const char *what, uint8_t code, uint8_t expected)
     }
 }
 
-/* what an end wrote is on the line now */
+/* what an end wrote is on the line now; it is received in the same moment as it is heard, since the line has no queue here */
 static void on_the_line(const char *who)
 {
     line_len = told[0];
@@ -47,12 +54,25 @@ static void responder_sends(uint8_t code)
 
 static uint8_t responder_hears(void)
 {
-    return koy_responder_hear(responder, line, line_len, out, sizeof out, told);
+    size_t now = moment();
+    return koy_guarded_responder_hear(responder.state, responder.guard, now, now, line, line_len, out, sizeof out, told);
 }
 
 static uint8_t initiator_hears(void)
 {
-    return koy_initiator_hear(initiator, line, line_len, out, sizeof out, told);
+    size_t now = moment();
+    return koy_guarded_initiator_hear(initiator.state, initiator.last, now, now, line, line_len, out, sizeof out, told);
+}
+
+static uint8_t answer(size_t number, const uint8_t *reply, size_t reply_len)
+{
+    return koy_guarded_responder_answer(responder.state, responder.guard, number, moment(), reply, reply_len, out, sizeof out,
+                                        told);
+}
+
+static uint8_t submit(const uint8_t *order, size_t order_len)
+{
+    return koy_guarded_initiator_submit(initiator.state, initiator.last, moment(), order, order_len, out, sizeof out, told);
 }
 
 /* the cabinet hears an order and answers it with one byte more than it got; to an order of 246 bytes that would be refused, 9 */
@@ -60,11 +80,12 @@ static void carry_out(void)
 {
     uint8_t reply[246 + 1];
     want("responder", responder_hears(), KOY_HANDED_UP);
-    size_t len = told[1];
+    size_t len = told[1], number = told[2];
     memcpy(reply, line + told[0], len);
     reply[len] = 0x06;
     printf(" cabinet carries out %zu bytes\n", len);
-    responder_sends(koy_responder_answer(responder, reply, len + 1, out, sizeof out, told));
+    want("another order's answer", answer(number - 1, reply, len + 1), KOY_NO_REPLY_OWED);
+    responder_sends(answer(number, reply, len + 1));
 }
 
 static void confirmed(void)
@@ -80,20 +101,21 @@ int main(void)
     const char text[] = "own=2\npeer=5\ntries=2\n";
 
     want("settings", koy_settings_read((const uint8_t *)text, sizeof text - 1, told), KOY_DONE);
-    want("new", koy_initiator_new(initiator, (uint8_t)told[0], (uint8_t)told[1], (uint8_t)told[2]), KOY_DONE);
-    want("new", koy_responder_new(responder, (uint8_t)told[1], (uint8_t)told[0]), KOY_DONE);
+    uint8_t own = (uint8_t)told[0], peer = (uint8_t)told[1], tries = (uint8_t)told[2];
+    want("new", koy_guarded_initiator_new(initiator.state, initiator.last, own, peer, tries, moment()), KOY_DONE);
+    want("new", koy_guarded_responder_new(responder.state, responder.guard, peer, own, moment()), KOY_DONE);
 
-    initiator_sends(koy_initiator_submit(initiator, open_feeder, sizeof open_feeder, out, sizeof out, told));
-    want("submit again", koy_initiator_submit(initiator, open_feeder, 2, out, sizeof out, told), KOY_ORDER_PENDING);
+    initiator_sends(submit(open_feeder, sizeof open_feeder));
+    want("submit again", submit(open_feeder, sizeof open_feeder), KOY_ORDER_PENDING);
     responder_sends(responder_hears());
     initiator_sends(initiator_hears());
     carry_out();
     confirmed();
 
-    initiator_sends(koy_initiator_submit(initiator, close_feeder, sizeof close_feeder, out, sizeof out, told));
+    initiator_sends(submit(close_feeder, sizeof close_feeder));
     carry_out();
     printf("the reply is lost\n");
-    initiator_sends(koy_initiator_silence(initiator, out, sizeof out, told));
+    initiator_sends(koy_guarded_initiator_silence(initiator.state, initiator.last, moment(), out, sizeof out, told));
     responder_sends(responder_hears());
     confirmed();
     return 0;

@@ -1,6 +1,6 @@
 /* Koyandefa: telegrams, the station list, diagnostics and the order link of PROFIBUS, as proved functions.
  *
- * Link with libexports.a, and where a call of the order link is used, koy_initiator_... or koy_responder_..., with
+ * Link with libexports.a, and where a call of the order link is used, koy_guarded_..., koy_initiator_... or koy_responder_..., with
  * libexports_link.a too (bindings/archives makes both); neither needs the other. They allocate nothing, keep no state of their
  * own, call nothing but memcpy and memset, and return from every call. Each call is proved to answer every number, every length
  * and every content of the bytes that it is lent as document 01 says.
@@ -139,7 +139,7 @@ uint8_t koy_settings_write(uint8_t own, uint8_t peer, uint8_t tries, uint8_t *bu
 /* ---- the order link: what its records ask of a driver ---- */
 
 /* That no order is carried out twice, and no old reply shown for a new order, holds while every call is lent the record as the
- * call before it left it. So keep one record for each end of a link, and
+ * call before it left it. So keep one record for each end of a link, with its guard, and
  *   after a loss of power, or where the record is gone: koy_..._new; an order pending then was carried out at most once
  *   after a restart with the record at hand, as the last call left it: koy_..._restart; the initiator's tells what became of a
  *     pending order
@@ -148,7 +148,71 @@ uint8_t koy_settings_write(uint8_t own, uint8_t peer, uint8_t tries, uint8_t *bu
  *   order 1 confirmed; STORED; close-18 confirmed; power lost; LOADED; open-19 submitted: confirmed by close-18's reply, never carried out
  *   order 1 confirmed; STORED; close-18 carried out, its reply and power lost; LOADED; close-18 repeated: carried out a second time */
 
-/* ---- the order link, head end (libexports_link.a) ---- */
+/* What else a driver owes, in short; docs/DRIVERS.md has each rule with the run that goes wrong without it.
+ *   Silence is reported when the line has been idle for the slot time after the last byte sent or received, and not before.
+ *   Of several telegrams that wait only the last is heard, and none that is older than this end's own last telegram.
+ *   An answer that comes after its slot is given all the same, and what it wrote is not sent: the head end's repeat fetches it.
+ *   An opening cancels an owed answer without notice; an answer names the order that it is for.
+ *   0 after hearing: nothing to do, keep waiting. KOY_UNKNOWN: find out what the feeder does before the order is given again.
+ *   The two ends name each other, and nothing else on the line bears both addresses. */
+
+/* ---- the order link, guarded: for every driver (libexports_link.a) ---- */
+
+/* Document 01's link wants a telegram heard before the next call of either end, or never, and an answer to the order that was
+ * handed up last. These calls look at both. Each is the plain call of the same name further down, and beside the record it is lent
+ * a guard, which belongs to the record and is kept, made anew and never put back as it is.
+ *
+ * Stamps are the driver's, at each end its own: of any clock or count that never goes back. `moment` is the stamp of the call,
+ * `received` that of the moment at which the last byte heard came in (not at which it was read from a queue). BYTES THAT WERE NOT
+ * RECEIVED AFTER THE END'S OWN LAST TELEGRAM WAS WRITTEN ARE IGNORED: code 0, each number told is 0, all else stays. The same
+ * stamp is not after: the clock must tick between writing and receiving, or be a count that is stepped at each event. A smaller
+ * `moment` than one before changes nothing of what is ignored.
+ *
+ * Numbers. An order that is handed up has a number, which the answer names: AN ANSWER TO ANOTHER ORDER IS REFUSED, 21. Numbers count
+ * on from the stamp with which the record was made (behind the greatest size_t they go on at 0). So give a record made anew the stamp of a
+ * clock that went on meanwhile, or let the application begin anew with it: else a number of before may come again.
+ *
+ * Restart is koy_initiator_restart or koy_responder_restart on the state; the guard stays as it is. */
+
+/* a record and its guard: [0] the stamp of the last telegram written, or of the making */
+typedef struct {
+    uint8_t state[252];
+    size_t last[1];
+} koy_guarded_initiator;
+
+/* [0] likewise  [1] the number of the order handed up last; before the first one, the stamp of the making */
+typedef struct {
+    uint8_t state[250];
+    size_t guard[2];
+} koy_guarded_responder;
+
+/* told is as with the plain calls of the head end. */
+
+/* A link that is closed: the first call, and the one after a loss of power. tries 1 to 8 (2 is the default). 18, 19. */
+uint8_t koy_guarded_initiator_new(uint8_t state[252], size_t last[1], uint8_t own, uint8_t peer, uint8_t tries, size_t moment);
+/* Submits an order of 1 to 246 bytes. KOY_SENT; 10, 17, 16 in this order. */
+uint8_t koy_guarded_initiator_submit(uint8_t state[252], size_t last[1], size_t moment, const uint8_t *order, size_t order_len,
+                                     uint8_t *buf, size_t buf_len, size_t told[3]);
+/* Nothing was heard in time. KOY_SENT, KOY_NOT_SENT, KOY_UNKNOWN or 0; 10. */
+uint8_t koy_guarded_initiator_silence(uint8_t state[252], size_t last[1], size_t moment, uint8_t *buf, size_t buf_len,
+                                      size_t told[3]);
+/* These bytes were received. KOY_SENT, KOY_CONFIRMED or 0; 10, but stale bytes are ignored whatever the room. */
+uint8_t koy_guarded_initiator_hear(uint8_t state[252], size_t last[1], size_t received, size_t moment, const uint8_t *heard,
+                                   size_t heard_len, uint8_t *buf, size_t buf_len, size_t told[3]);
+
+/* A responder that remembers nothing: the first call, and the one after a loss of power. 18. */
+uint8_t koy_guarded_responder_new(uint8_t state[250], size_t guard[2], uint8_t own, uint8_t peer, size_t moment);
+/* These bytes were received. KOY_SENT: told[0] is the telegram's length. KOY_HANDED_UP: the order is heard[told[0]], told[1]
+ * bytes; told[2] is its number. 0: nothing to do. 10, but stale bytes are ignored whatever the room. */
+uint8_t koy_guarded_responder_hear(uint8_t state[250], size_t guard[2], size_t received, size_t moment, const uint8_t *heard,
+                                   size_t heard_len, uint8_t *buf, size_t buf_len, size_t told[3]);
+/* The application's reply of up to 246 bytes to the order of this number. KOY_SENT: told[0] is the telegram's length. 21 where
+ * the order handed up last has another number, whatever the room; then 10, 21, 9 in this order. After 21 the reply is for
+ * nobody: drop it. */
+uint8_t koy_guarded_responder_answer(uint8_t state[250], size_t guard[2], size_t number, size_t moment, const uint8_t *reply,
+                                     size_t reply_len, uint8_t *buf, size_t buf_len, size_t told[3]);
+
+/* ---- the order link, document 01's plain calls, for drivers that hold its rules themselves: head end (libexports_link.a) ---- */
 
 /* [0] own  [1] peer  [2] tries  [3] phase: 0 closed, 1 ready for Low, 2 ready for High, 3 opening, 4 order under Low, 5 order
  * under High; any other counts as 0  [4] telegrams written in the phase  [5] the order's length, above 246 counts as 246
@@ -175,7 +239,7 @@ uint8_t koy_initiator_hear(uint8_t state[252], const uint8_t *heard, size_t hear
 /* Closes the link and gives a pending order up. KOY_NOT_SENT, KOY_UNKNOWN or 0. */
 uint8_t koy_initiator_restart(uint8_t state[252], size_t told[3]);
 
-/* ---- the order link, cabinet (libexports_link.a) ---- */
+/* ---- likewise: cabinet (libexports_link.a) ---- */
 
 /* [0] own  [1] peer  [2] 0 blank, 1 opened, 2 owes the reply to an order under Low, 3 under High, 4 holds the reply to an order
  * under Low, 5 under High; any other counts as 0  [3] the held reply's length, above 246 counts as 246

@@ -104,6 +104,72 @@ extern "C" {
         buf_len: usize,
         told: &mut [usize; 2],
     ) -> u8;
+    pub fn koy_guarded_initiator_new(
+        state: &mut Initiator,
+        last: &mut [usize; 1],
+        own: u8,
+        peer: u8,
+        tries: u8,
+        moment: usize,
+    ) -> u8;
+    pub fn koy_guarded_initiator_submit(
+        state: &mut Initiator,
+        last: &mut [usize; 1],
+        moment: usize,
+        order: *const u8,
+        order_len: usize,
+        buf: *mut u8,
+        buf_len: usize,
+        told: &mut [usize; 3],
+    ) -> u8;
+    pub fn koy_guarded_initiator_silence(
+        state: &mut Initiator,
+        last: &mut [usize; 1],
+        moment: usize,
+        buf: *mut u8,
+        buf_len: usize,
+        told: &mut [usize; 3],
+    ) -> u8;
+    pub fn koy_guarded_initiator_hear(
+        state: &mut Initiator,
+        last: &mut [usize; 1],
+        received: usize,
+        moment: usize,
+        heard: *const u8,
+        heard_len: usize,
+        buf: *mut u8,
+        buf_len: usize,
+        told: &mut [usize; 3],
+    ) -> u8;
+    pub fn koy_guarded_responder_new(
+        state: &mut Responder,
+        guard: &mut [usize; 2],
+        own: u8,
+        peer: u8,
+        moment: usize,
+    ) -> u8;
+    pub fn koy_guarded_responder_hear(
+        state: &mut Responder,
+        guard: &mut [usize; 2],
+        received: usize,
+        moment: usize,
+        heard: *const u8,
+        heard_len: usize,
+        buf: *mut u8,
+        buf_len: usize,
+        told: &mut [usize; 3],
+    ) -> u8;
+    pub fn koy_guarded_responder_answer(
+        state: &mut Responder,
+        guard: &mut [usize; 2],
+        number: usize,
+        moment: usize,
+        reply: *const u8,
+        reply_len: usize,
+        buf: *mut u8,
+        buf_len: usize,
+        told: &mut [usize; 3],
+    ) -> u8;
 }
 
 /// Every call of the static libraries by its first instruction, so that none is left out where the stack is measured.
@@ -136,6 +202,13 @@ pub fn ours() -> Vec<(*const (), &'static str)> {
         (koy_responder_hear as *const (), "responder_hear"),
         (koy_responder_answer as *const (), "responder_answer"),
         (koy_responder_restart as *const (), "responder_restart"),
+        (koy_guarded_initiator_new as *const (), "guarded_initiator_new"),
+        (koy_guarded_initiator_submit as *const (), "guarded_initiator_submit"),
+        (koy_guarded_initiator_silence as *const (), "guarded_initiator_silence"),
+        (koy_guarded_initiator_hear as *const (), "guarded_initiator_hear"),
+        (koy_guarded_responder_new as *const (), "guarded_responder_new"),
+        (koy_guarded_responder_hear as *const (), "guarded_responder_hear"),
+        (koy_guarded_responder_answer as *const (), "guarded_responder_answer"),
     ]
 }
 

@@ -1,7 +1,7 @@
 //! All cases, and how one of them is measured on both sides.
 
 use crate::measures::{measure, Measure, Side};
-use crate::{link, orders, others, stations, telegrams, walks};
+use crate::{guarded, link, orders, others, stations, telegrams, walks};
 
 /// Which cases are measured, and how.
 #[derive(Clone, Copy)]
@@ -44,5 +44,6 @@ pub fn run(how: Measure, word: &str) {
     walks::walks(plan);
     orders::orders(plan);
     link::calls(plan);
+    guarded::calls(plan);
     others::calls(plan);
 }

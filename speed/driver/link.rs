@@ -8,19 +8,19 @@ use crate::telegrams::pdu_of;
 use std::hint::black_box;
 
 /// The records before each call of a whole order, and the four telegrams that are heard.
-struct Steps {
-    closed: Initiator,
-    opening: Initiator,
-    sending: Initiator,
-    ready: Initiator,
-    blank: Responder,
-    opened: Responder,
-    owing: Responder,
-    holding: Responder,
-    line: [Vec<u8>; 4],
+pub struct Steps {
+    pub closed: Initiator,
+    pub opening: Initiator,
+    pub sending: Initiator,
+    pub ready: Initiator,
+    pub blank: Responder,
+    pub opened: Responder,
+    pub owing: Responder,
+    pub holding: Responder,
+    pub line: [Vec<u8>; 4],
 }
 
-fn steps(order: &[u8], reply: &[u8]) -> Steps {
+pub fn steps(order: &[u8], reply: &[u8]) -> Steps {
     let (mut head, mut cabinet) = ([0; 252], [0; 250]);
     let mut buf = [0; 255];
     let (mut told, mut served) = ([0; 3], [0; 2]);
@@ -64,7 +64,7 @@ fn of_others(telegram: &[u8]) -> Vec<u8> {
 }
 
 /// One call on a copy of a record.
-fn case<R: Copy>(plan: Plan, case: &str, state: R, entry: *const (), answer: u8, call: &mut dyn FnMut(&mut R) -> u8) {
+pub fn case<R: Copy>(plan: Plan, case: &str, state: R, entry: *const (), answer: u8, call: &mut dyn FnMut(&mut R) -> u8) {
     if !plan.wants(case) {
         return;
     }

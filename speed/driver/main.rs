@@ -2,6 +2,7 @@
 
 mod calls;
 mod cases;
+mod guarded;
 mod link;
 mod measures;
 mod orders;

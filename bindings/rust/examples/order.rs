@@ -1,16 +1,26 @@
 //! A whole order through both ends of the link, then one whose reply is lost: the same as bindings/c/example.c, and it prints
 //! the same.
-use koyandefa::{Initiator, InitiatorAnswer, Refusal, Responder, ResponderAnswer, Settings, LONGEST_TELEGRAM, ROOM};
+use koyandefa::{
+    GuardedInitiator, GuardedResponder, Heard, InitiatorAnswer, NotTaken, Received, Refusal, Settings,
+    LONGEST_TELEGRAM, ROOM,
+};
 
 struct Bus {
-    initiator: Initiator,
-    responder: Responder,
+    initiator: GuardedInitiator,
+    responder: GuardedResponder,
     /// What was received: noise may be longer than what we write.
     line: [u8; LONGEST_TELEGRAM],
     line_len: usize,
+    /// The stamps: a count that is stepped at each event will do where both ends are in one program.
+    events: usize,
 }
 
 impl Bus {
+    fn now(&mut self) -> usize {
+        self.events += 1;
+        self.events
+    }
+
     fn on_the_line(&mut self, who: &str, written: &[u8]) {
         self.line[..written.len()].copy_from_slice(written);
         self.line_len = written.len();
@@ -23,43 +33,49 @@ impl Bus {
 
     fn head_end_sends(
         &mut self,
-        call: impl Fn(&mut Initiator, &[u8], &mut [u8]) -> Result<InitiatorAnswer, Refusal>,
+        call: impl Fn(&mut GuardedInitiator, Received, &mut [u8]) -> Result<InitiatorAnswer, Refusal>,
     ) -> Result<(), Refusal> {
         let mut buf = [0; ROOM];
-        let InitiatorAnswer::Sent(len) = call(&mut self.initiator, &self.line[..self.line_len], &mut buf)? else {
+        let heard = Received { at: self.now(), bytes: &self.line[..self.line_len] };
+        let InitiatorAnswer::Sent(len) = call(&mut self.initiator, heard, &mut buf)? else {
             panic!("nothing was sent")
         };
         self.on_the_line("head end", &buf[..len]);
         Ok(())
     }
 
-    fn cabinet_sends(
-        &mut self,
-        call: impl Fn(&mut Responder, &[u8], &mut [u8]) -> Result<ResponderAnswer, Refusal>,
-    ) -> Result<(), Refusal> {
+    fn cabinet_hears(&mut self, buf: &mut [u8; ROOM]) -> Result<Heard, Refusal> {
+        let now = self.now();
+        self.responder.hear(Received { at: now, bytes: &self.line[..self.line_len] }, now, buf)
+    }
+
+    fn cabinet_sends(&mut self) -> Result<(), Refusal> {
         let mut buf = [0; ROOM];
-        let ResponderAnswer::Sent(len) = call(&mut self.responder, &self.line[..self.line_len], &mut buf)? else {
-            panic!("nothing was sent")
-        };
+        let Heard::Sent(len) = self.cabinet_hears(&mut buf)? else { panic!("nothing was sent") };
         self.on_the_line(" cabinet", &buf[..len]);
         Ok(())
     }
 
     /// The cabinet hears an order and answers it with one byte more than it got; to an order of 246 bytes that would be refused, 9.
     fn carry_out(&mut self) -> Result<(), Refusal> {
-        let ResponderAnswer::HandedUp(order) = self.responder.hear(&self.line[..self.line_len], &mut [0; ROOM])? else {
-            panic!("no order")
-        };
-        println!(" cabinet carries out {} bytes", order.len());
-        let mut reply = self.line[order].to_vec();
+        let mut buf = [0; ROOM];
+        let Heard::HandedUp(order) = self.cabinet_hears(&mut buf)? else { panic!("no order") };
+        println!(" cabinet carries out {} bytes", order.order().len());
+        let mut reply = order.order().to_vec();
         reply.push(0x06);
-        self.cabinet_sends(|responder, _, buf| responder.answer(&reply, buf))
+        let now = self.now();
+        match self.responder.answer(order, now, &reply, &mut buf) {
+            Ok(len) => self.on_the_line(" cabinet", &buf[..len]),
+            Err(NotTaken::Again(refusal, _order)) => return Err(refusal),
+            Err(NotTaken::NoReplyOwed) => return Err(Refusal::NoReplyOwed),
+        }
+        Ok(())
     }
 
     fn confirmed(&mut self) -> Result<(), Refusal> {
-        let InitiatorAnswer::Confirmed { reply, tries } =
-            self.initiator.hear(&self.line[..self.line_len], &mut [0; ROOM])?
-        else {
+        let now = self.now();
+        let heard = Received { at: now, bytes: &self.line[..self.line_len] };
+        let InitiatorAnswer::Confirmed { reply, tries } = self.initiator.hear(heard, now, &mut [0; ROOM])? else {
             panic!("not confirmed")
         };
         println!("head end: confirmed after {tries} tries, reply of {} bytes", reply.len());
@@ -70,22 +86,24 @@ impl Bus {
 fn main() -> Result<(), Refusal> {
     let settings = Settings::read(b"own=2\npeer=5\ntries=2\n")?;
     let mut bus = Bus {
-        initiator: Initiator::new(settings.own, settings.peer, settings.tries)?,
-        responder: Responder::new(settings.peer, settings.own)?,
+        initiator: GuardedInitiator::new(settings.own, settings.peer, settings.tries, 0)?,
+        responder: GuardedResponder::new(settings.peer, settings.own, 0)?,
         line: [0; LONGEST_TELEGRAM],
         line_len: 0,
+        events: 0,
     };
-    bus.head_end_sends(|initiator, _, buf| initiator.submit(&[0x01, 0x03], buf))?;
-    assert_eq!(bus.initiator.submit(&[0x01, 0x03], &mut [0; ROOM]), Err(Refusal::OrderPending));
-    bus.cabinet_sends(|responder, line, buf| responder.hear(line, buf))?;
-    bus.head_end_sends(|initiator, line, buf| initiator.hear(line, buf))?;
+    bus.head_end_sends(|initiator, heard, buf| initiator.submit(heard.at, &[0x01, 0x03], buf))?;
+    let now = bus.now();
+    assert_eq!(bus.initiator.submit(now, &[0x01, 0x03], &mut [0; ROOM]), Err(Refusal::OrderPending));
+    bus.cabinet_sends()?;
+    bus.head_end_sends(|initiator, heard, buf| initiator.hear(heard, heard.at, buf))?;
     bus.carry_out()?;
     bus.confirmed()?;
 
-    bus.head_end_sends(|initiator, _, buf| initiator.submit(&[0x02, 0x03, 0x05], buf))?;
+    bus.head_end_sends(|initiator, heard, buf| initiator.submit(heard.at, &[0x02, 0x03, 0x05], buf))?;
     bus.carry_out()?;
     println!("the reply is lost");
-    bus.head_end_sends(|initiator, _, buf| initiator.silence(buf))?;
-    bus.cabinet_sends(|responder, line, buf| responder.hear(line, buf))?;
+    bus.head_end_sends(|initiator, heard, buf| initiator.silence(heard.at, buf))?;
+    bus.cabinet_sends()?;
     bus.confirmed()
 }

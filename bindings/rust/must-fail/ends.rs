@@ -1,7 +1,7 @@
-//! Wrong programs: drivers that keep an older record of an end of the link, or share one between threads without a lock. `run` has this
-//! file compiled with each `wrong` below, which must be refused with the error named beside it and no other, and without any,
-//! which must be taken.
-use koyandefa::{Initiator, Responder, StationList};
+//! Wrong programs: drivers that keep an older record of an end of the link, share one between threads without a lock, or answer an order
+//! twice or without having been handed it. `run` has this file compiled with each `wrong` below, which must be refused with the error
+//! named beside it and no other, and without any, which must be taken.
+use koyandefa::{GuardedInitiator, GuardedResponder, HandUp, Initiator, NotTaken, Responder, StationList, ROOM};
 use std::{sync::Mutex, thread};
 
 pub fn driver(mut initiator: Initiator, mut responder: Responder) {
@@ -37,6 +37,44 @@ pub fn driver(mut initiator: Initiator, mut responder: Responder) {
     });
     initiator.restart();
     responder.restart();
+}
+
+pub fn guarded_driver(mut initiator: GuardedInitiator, mut responder: GuardedResponder) {
+    #[cfg(wrong = "guarded_initiator_cloned")] // E0599
+    let old: GuardedInitiator = initiator.clone();
+    #[cfg(wrong = "guarded_initiator_copied")] // E0382
+    let old: GuardedInitiator = initiator;
+    #[cfg(wrong = "guarded_initiator_made_of_bytes")] // E0451
+    let mut initiator = GuardedInitiator { state: [0; 252], last: [0] };
+    #[cfg(wrong = "guarded_responder_cloned")] // E0599
+    let old: GuardedResponder = responder.clone();
+    #[cfg(wrong = "guarded_responder_copied")] // E0382
+    let old: GuardedResponder = responder;
+    #[cfg(wrong = "guarded_responder_made_of_bytes")] // E0451
+    let mut responder = GuardedResponder { state: [0; 250], guard: [0; 2], end: 0 };
+    #[cfg(wrong = "guard_copied")] // E0616
+    let old = responder.guard;
+    initiator.restart();
+    responder.restart();
+}
+
+pub fn application(responder: &mut GuardedResponder, order: HandUp, buf: &mut [u8; ROOM]) {
+    #[cfg(wrong = "hand_up_cloned")] // E0599
+    let twin: HandUp = order.clone();
+    #[cfg(wrong = "hand_up_used_twice")] // E0382
+    let _ = responder.answer(order, 1, b"done", buf);
+    #[cfg(wrong = "hand_up_made_by_hand")] // E0451
+    let order = HandUp { order: [0; 246], len: 1, number: 1, end: 0 };
+    #[cfg(wrong = "hand_up_given_another_number")] // E0616
+    let order = {
+        let mut order = order;
+        order.number = 2;
+        order
+    };
+    // What a driver may do: answer again where that can be mended.
+    if let Err(NotTaken::Again(_, order)) = responder.answer(order, 2, b"done", &mut buf[..254]) {
+        let _ = responder.answer(order, 3, b"done", buf);
+    }
 }
 
 /// What a driver may do: share an end behind a lock, and clone, store and load the station list.

@@ -58,6 +58,72 @@ extern "C" {
     pub fn koy_diagnostics_module(body: *const u8, body_len: usize, module: usize) -> bool;
     pub fn koy_settings_read(text: *const u8, text_len: usize, told: *mut [usize; 3]) -> u8;
     pub fn koy_settings_write(own: u8, peer: u8, tries: u8, buf: *mut u8, buf_len: usize, told: *mut [usize; 1]) -> u8;
+    pub fn koy_guarded_initiator_new(
+        state: *mut [u8; 252],
+        last: *mut [usize; 1],
+        own: u8,
+        peer: u8,
+        tries: u8,
+        moment: usize,
+    ) -> u8;
+    pub fn koy_guarded_initiator_submit(
+        state: *mut [u8; 252],
+        last: *mut [usize; 1],
+        moment: usize,
+        order: *const u8,
+        order_len: usize,
+        buf: *mut u8,
+        buf_len: usize,
+        told: *mut [usize; 3],
+    ) -> u8;
+    pub fn koy_guarded_initiator_silence(
+        state: *mut [u8; 252],
+        last: *mut [usize; 1],
+        moment: usize,
+        buf: *mut u8,
+        buf_len: usize,
+        told: *mut [usize; 3],
+    ) -> u8;
+    pub fn koy_guarded_initiator_hear(
+        state: *mut [u8; 252],
+        last: *mut [usize; 1],
+        received: usize,
+        moment: usize,
+        heard: *const u8,
+        heard_len: usize,
+        buf: *mut u8,
+        buf_len: usize,
+        told: *mut [usize; 3],
+    ) -> u8;
+    pub fn koy_guarded_responder_new(
+        state: *mut [u8; 250],
+        guard: *mut [usize; 2],
+        own: u8,
+        peer: u8,
+        moment: usize,
+    ) -> u8;
+    pub fn koy_guarded_responder_hear(
+        state: *mut [u8; 250],
+        guard: *mut [usize; 2],
+        received: usize,
+        moment: usize,
+        heard: *const u8,
+        heard_len: usize,
+        buf: *mut u8,
+        buf_len: usize,
+        told: *mut [usize; 3],
+    ) -> u8;
+    pub fn koy_guarded_responder_answer(
+        state: *mut [u8; 250],
+        guard: *mut [usize; 2],
+        number: usize,
+        moment: usize,
+        reply: *const u8,
+        reply_len: usize,
+        buf: *mut u8,
+        buf_len: usize,
+        told: *mut [usize; 3],
+    ) -> u8;
     pub fn koy_initiator_new(state: *mut [u8; 252], own: u8, peer: u8, tries: u8) -> u8;
     pub fn koy_initiator_submit(
         state: *mut [u8; 252],

@@ -4,11 +4,15 @@
 //!
 //! A refused call returns the [`Refusal`] with document 01's number and leaves all that it was lent as it came.
 //!
-//! The [`StationList`] may be cloned, stored and loaded. The two ends of the link may not: an older record put back shows an old reply for
+//! The ends of the order link are [`GuardedInitiator`] and [`GuardedResponder`]. [`Initiator`] and [`Responder`] are document 01's plain
+//! calls, for drivers that see themselves to what the guards see to: that no telegram is heard late, and no answer given late.
+//!
+//! The [`StationList`] may be cloned, stored and loaded. The ends of the link may not: an older record put back shows an old reply for
 //! a new order ([`Initiator`]) or carries an order out twice ([`Responder`]). They are moved only, and two threads need a lock.
 
 mod diagnostics;
 mod ffi;
+mod guarded;
 mod link;
 mod refusal;
 mod settings;
@@ -16,6 +20,7 @@ mod stations;
 mod telegram;
 
 pub use diagnostics::{fill, module_is_set, Block, Walk};
+pub use guarded::{GuardedInitiator, GuardedResponder, HandUp, Heard, NotTaken, Received};
 pub use link::{Initiator, InitiatorAnswer, Responder, ResponderAnswer, DEFAULT_TRIES, LONGEST_ORDER, ROOM};
 pub use refusal::Refusal;
 pub use settings::Settings;

@@ -1,4 +1,5 @@
-//! The two ends of the order link. Neither can be cloned, stored or loaded: an older record would make demand 3 false.
+//! The two ends of the order link as document 01 has them, for drivers that hold its rules themselves; `guarded` has the ends that look at
+//! stamps and numbers. None can be cloned, stored or loaded: an older record would make demand 3 false.
 use crate::ffi;
 use crate::refusal::{done, Refusal};
 use std::ops::Range;
@@ -12,7 +13,8 @@ pub const ROOM: usize = 255;
 pub const LONGEST_ORDER: usize = 246;
 pub const DEFAULT_TRIES: u8 = 2;
 
-/// The head end: it submits orders and reports what became of them.
+/// The head end: it submits orders and reports what became of them. A driver that takes this one, and not [`crate::GuardedInitiator`],
+/// sees to it that a telegram is heard before the next call of either end, or never.
 ///
 /// It is moved and never copied, stored or loaded; keep one for a link. After a loss of power, or a new start of the program, make it
 /// with [`Initiator::new`]; where it is still there, call [`Initiator::restart`]. What an older record would do: order 1 confirmed,
@@ -44,7 +46,7 @@ pub enum InitiatorAnswer {
     Nothing,
 }
 
-fn initiator_answer(code: u8, told: [usize; 3]) -> Result<InitiatorAnswer, Refusal> {
+pub(crate) fn initiator_answer(code: u8, told: [usize; 3]) -> Result<InitiatorAnswer, Refusal> {
     let [first, len, tries] = told;
     let tries = tries as u8;
     Ok(match code {
@@ -113,7 +115,8 @@ impl Initiator {
     }
 }
 
-/// The cabinet's end: it hands each order up once, and repeats its reply.
+/// The cabinet's end: it hands each order up once, and repeats its reply. A driver that takes this one, and not
+/// [`crate::GuardedResponder`], sees to that too, and to it that an answer is to the order handed up last: the first answer is taken for it.
 ///
 /// It is moved and never copied, stored or loaded; keep one for a link. After a loss of power, or a new start of the program, make it
 /// with [`Responder::new`]; where it is still there, call [`Responder::restart`]. What an older record would do: record stored, an

@@ -12,7 +12,7 @@ fn text(path: &str) -> String {
 }
 
 fn rattle_source() -> String {
-    let folders = ["telegrams", "stations", "diagnostics", "settings", "link"]
+    let folders = ["telegrams", "stations", "diagnostics", "settings", "link", "guarded"]
         .map(|name| Path::new(env!("CARGO_MANIFEST_DIR")).join(format!("../../crates/exports_{name}/src")));
     let files = folders.iter().flat_map(|f| fs::read_dir(f).unwrap_or_else(|e| panic!("{}: {e}", f.display())));
     files.map(|file| fs::read_to_string(file.unwrap().path()).unwrap()).collect()
@@ -159,7 +159,7 @@ fn header() -> String {
 #[test]
 fn rust_declares_what_is_exported() {
     let source = rattle(&rattle_source());
-    assert_eq!(source.len(), 27, "so many functions are exported");
+    assert_eq!(source.len(), 34, "so many functions are exported");
     assert_eq!(differences(&source, &rust(&text("src/ffi.rs"))), Vec::<String>::new());
 }
 
@@ -202,6 +202,7 @@ fn planted_drifts_are_found() {
         ("pdu: &[u8]", "pdu: &mut [u8]"),
         ("sa: u8, da: u8)", "da: u8, sa: u8)"),
         (") -> bool", ") -> u8"),
+        ("last: &mut [usize; 1]", "last: &mut [usize; 2]"),
     ];
     for (old, new) in drifts {
         let drifted = source.replace(old, new);
@@ -214,6 +215,8 @@ fn planted_drifts_are_found() {
         ("const uint8_t *heard", "uint8_t *heard"),
         ("uint8_t state[252]", "uint8_t state[250]"),
         (", size_t buf_len", ""),
+        ("size_t guard[2]", "size_t guard[1]"),
+        ("size_t received, size_t moment", "size_t moment, size_t received"),
     ];
     for (old, new) in c_drifts {
         let drifted = words(&header()).replace(old, new);

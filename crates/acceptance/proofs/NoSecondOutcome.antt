@@ -2,7 +2,9 @@
 -- refused calls too. Each crate shows it of its own calls, in proofs/Determined.antt; here they stand together.
 use Rattle.codes.proofs.Determined as codes
 use Rattle.diagnostics.proofs.Determined as diagnostics
+use Rattle.diagnostics_blocks.proofs.Determined as diagnosticsBlocks
 use Rattle.exports_diagnostics.proofs.Determined as exportsDiagnostics
+use Rattle.exports_guarded.proofs.Determined as exportsGuarded
 use Rattle.exports_link.proofs.Determined as exportsLink
 use Rattle.exports_settings.proofs.Determined as exportsSettings
 use Rattle.exports_stations.proofs.Determined as exportsStations
@@ -12,6 +14,7 @@ use Rattle.initiator.proofs.Determined as initiator
 use Rattle.link_rules.proofs.Determined as linkRules
 use Rattle.link_telegrams.proofs.Determined as linkTelegrams
 use Rattle.listing.proofs.Determined as listing
+use Rattle.listing_lines.proofs.Determined as listingLines
 use Rattle.responder.proofs.Determined as responder
 use Rattle.responder_row.proofs.Determined as responderRow
 use Rattle.ring_driver.proofs.Determined as ringDriver
@@ -28,9 +31,11 @@ pub record EveryCall : Type 2 where
   pub telegramTx : telegramTx.Calls
   pub tokenRing : tokenRing.Calls
   pub ringDriver : ringDriver.Calls
+  pub diagnosticsBlocks : diagnosticsBlocks.Calls
   pub diagnostics : diagnostics.Calls
   pub text : text.Calls
   pub settings : settings.Calls
+  pub listingLines : listingLines.Calls
   pub listing : listing.Calls
   pub linkRules : linkRules.Calls
   pub linkTelegrams : linkTelegrams.Calls
@@ -42,6 +47,7 @@ pub record EveryCall : Type 2 where
   pub exportsDiagnostics : exportsDiagnostics.Calls
   pub exportsSettings : exportsSettings.Calls
   pub exportsLink : exportsLink.Calls
+  pub exportsGuarded : exportsGuarded.Calls
 
 pub every-call : EveryCall
 every-call =
@@ -52,9 +58,11 @@ every-call =
       telegramTx = telegramTx.determined;
       tokenRing = tokenRing.determined;
       ringDriver = ringDriver.determined;
+      diagnosticsBlocks = diagnosticsBlocks.determined;
       diagnostics = diagnostics.determined;
       text = text.determined;
       settings = settings.determined;
+      listingLines = listingLines.determined;
       listing = listing.determined;
       linkRules = linkRules.determined;
       linkTelegrams = linkTelegrams.determined;
@@ -66,4 +74,5 @@ every-call =
       exportsDiagnostics = exportsDiagnostics.determined;
       exportsSettings = exportsSettings.determined;
       exportsLink = exportsLink.determined;
+      exportsGuarded = exportsGuarded.determined;
     }

@@ -6,8 +6,8 @@ use Rattle.codes.specs.FunctionCodes.{functionCodeOf}
 use Rattle.ground.specs.Part.{shownPart}
 use Rattle.codes.specs.RequestTypes.{requestTypeOf}
 use Rattle.codes.specs.Responses.{stateOf, statusOf}
-use Rattle.diagnostics.specs.Channel.{errorOf, typeOf}
-use Rattle.diagnostics.specs.Modules.{bitOf, modulesOf, firstOf}
+use Rattle.diagnostics_blocks.specs.Channel.{errorOf, typeOf}
+use Rattle.diagnostics_blocks.specs.Modules.{bitOf, modulesOf, firstOf}
 use Rattle.diagnostics.specs.Walk.{blockAt, headedBy, lengthOf, stepOf}
 use Rattle.link_telegrams.specs.Heard.{dataToOf, requestToOf, requestHeardOf}
 use Rattle.telegram.specs.Reading.{headerAt, sapsAt, contentOf, frameOf, lengthsOf, dataOf, tokenOf, readOf}

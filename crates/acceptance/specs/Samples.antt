@@ -13,11 +13,11 @@ use Rattle.codes.specs.declared.function_code.FunctionCode.{FunctionCode}
 use Rattle.codes.specs.declared.function_code.FunctionCode.the-variants.{Request}
 use Rattle.ground.specs.declared.part.Part.{Part}
 use Rattle.codes.specs.declared.request_type.RequestType.the-variants.{SrdLow}
-use Rattle.diagnostics.specs.Modules.{firstOf}
-use Rattle.diagnostics.specs.Shown.{shownError, shownType}
+use Rattle.diagnostics_blocks.specs.Modules.{firstOf}
+use Rattle.diagnostics_blocks.specs.Shown.{shownError, shownType}
 use Rattle.diagnostics.specs.Walk.{block, bodyOf, channelIs, deviceAt, identifierAt, refusedAt, stepOf}
-use Rattle.diagnostics.specs.declared.channel.ChannelDataType.the-variants.{Bit}
-use Rattle.diagnostics.specs.declared.channel.ChannelError.the-variants.{LineBreak}
+use Rattle.diagnostics_blocks.specs.declared.channel.ChannelDataType.the-variants.{Bit}
+use Rattle.diagnostics_blocks.specs.declared.channel.ChannelError.the-variants.{LineBreak}
 use Rattle.link_telegrams.specs.Heard.{requestHeardOf}
 use Rattle.link_telegrams.specs.declared.headers.Bit.the-variants as bit
 use Rattle.link_telegrams.specs.declared.heard.RequestHeard.the-variants.{Order}

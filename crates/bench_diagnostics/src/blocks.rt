@@ -1,11 +1,11 @@
 // The blocks of a walk, as answers.
-use diagnostics::ChannelDataType;
-use diagnostics::ChannelDiagnostics;
-use diagnostics::ChannelError;
 use diagnostics::ExtDiagBlock;
 use diagnostics::ExtendedDiagnostics;
-use diagnostics::modules::MODULES;
-use diagnostics::modules::is_set;
+use diagnostics_blocks::ChannelDataType;
+use diagnostics_blocks::ChannelDiagnostics;
+use diagnostics_blocks::ChannelError;
+use diagnostics_blocks::modules::MODULES;
+use diagnostics_blocks::modules::is_set;
 use line_text::answers::Out;
 use line_text::answers::put_bool;
 use line_text::answers::put_byte_number;

@@ -11,3 +11,5 @@ pub mod Safe
 pub mod Live
 -- the demand
 pub mod Demand
+-- beside the demand: whose reply a confirmed order shows, where the application answers by number
+pub mod Numbers

@@ -6,7 +6,7 @@ use native.Mathlib.Decide.{ℕ-discrete}
 use native.Mathlib.Omega.{arith}
 use lib.ListN.{length}
 use Rattle.ground.specs.Part.{byteAt}
-use Rattle.diagnostics.specs.Channel.{channelOf}
+use Rattle.diagnostics_blocks.specs.Channel.{channelOf}
 use Rattle.diagnostics.specs.Meaning.{BodyOf, BodyWithin, ofDevice, ofIdentifier}
 use Rattle.diagnostics.specs.Walk.{PlacedBlock, block, blockAt, channelIs, deviceAt, identifierAt, lengthOf, stepOf}
 use Rattle.diagnostics.proofs.Headers.{block-channel, block-device, block-identifier, length-channel, length-identifier, length-sized}

@@ -6,7 +6,7 @@ use native.Mathlib.Omega.{arith}
 use borrow.Author.Tests.{eq-eqb, ne-eqb, le-ltb, lt-ltb}
 use lib.ListN.{length}
 use Rattle.ground.specs.Part.{byteAt}
-use Rattle.diagnostics.specs.Channel.{channelOf}
+use Rattle.diagnostics_blocks.specs.Channel.{channelOf}
 use Rattle.diagnostics.specs.Walk.{block, blockAt, channelIs, deviceAt, headedBy, identifierAt, lengthOf, refusedAt}
 
 pub length-channel : (header : ℕ) → header / 64 ≡ 2 → lengthOf header ≡ 3

@@ -18,8 +18,6 @@ pub mod Determined
 pub mod Shows
 -- the walk by its first step, and that it has steps enough
 pub mod Walks
--- a step at a header, by its kind; filling, test by test; a body's bits; the numbers of types and errors
+-- a step at a header, by its kind; filling, test by test
 pub mod Headers
 pub mod StoreLaws
-pub mod Bits
-pub mod Numbers

@@ -12,10 +12,10 @@ use Rattle.ground.proofs.BitLaws.{digit-small, digit-back}
 use Rattle.ground.proofs.PartLaws.{shown-fits}
 use Rattle.ground.specs.Bits.{digit}
 use Rattle.diagnostics.specs.Blocks.{AllFitting, Block, ChannelFits, Fitting, RowSays, Says, channel, channelFits, device, deviceFits, firstByte, identifier, identifierFits, itsOwn, noneLeft, oneMore, rowBytes, rowEnd, rowMore, secondByte, thirdByte, typeZero}
-use Rattle.diagnostics.specs.Channel.{Channel, channelOf, errorNumber, typeOf}
+use Rattle.diagnostics_blocks.specs.Channel.{Channel, channelOf, errorNumber, typeOf}
 use Rattle.diagnostics.specs.Walk.{PlacedBlock, block, blockAt, bodyOf, channelIs, deviceAt, identifierAt, lengthOf, pictured, stepOf, walkOf, walkSteps, whole}
 use Rattle.diagnostics.proofs.Headers.{length-channel, length-sized}
-use Rattle.diagnostics.proofs.Numbers.{type-kept, type-zero}
+use Rattle.diagnostics_blocks.proofs.Numbers.{type-kept, type-zero}
 use Rattle.diagnostics.proofs.Steps.{step-block, step-stays}
 use Rattle.diagnostics.proofs.Walks.{walk-off, walk-on}
 

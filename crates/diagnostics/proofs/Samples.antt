@@ -3,7 +3,7 @@ use mathlib.Core.Path.{_≡_, refl}
 use mathlib.Core.Bool.{true, false}
 use mathlib.Core.List.{[], _∷_}
 use Rattle.ground.specs.Part.{shownPart}
-use Rattle.diagnostics.specs.Modules.{bitOf}
+use Rattle.diagnostics_blocks.specs.Modules.{bitOf}
 use Rattle.diagnostics.specs.Store.{fillOf, walkedOf}
 use Rattle.diagnostics.specs.Walk.{atEnd, block, blockAt, bodyOf, deviceAt, headedBy, lengthOf, refusedAt, stepOf}
 

@@ -13,8 +13,8 @@ use lib.Dec.{leb}
 use lib.ListN.{length}
 use Rattle.ground.specs.Pick.{if}
 use Rattle.diagnostics.specs.Meaning.{FirstSet, asked, setFrom, setOfNext}
-use Rattle.diagnostics.specs.Modules.{bitOf, firstOf, firstOfNext, modulesOf}
-use Rattle.diagnostics.proofs.Bits.{bit-past}
+use Rattle.diagnostics_blocks.specs.Modules.{bitOf, firstOf, firstOfNext, modulesOf}
+use Rattle.diagnostics_blocks.proofs.Bits.{bit-past}
 use Rattle.diagnostics.proofs.Steps.{clash}
 
 -- what an answer of the search says of the k modules from a number

@@ -13,10 +13,10 @@ use Rattle.ground.proofs.PartLaws.{part-length, shown-fits}
 use Rattle.ground.specs.Bits.{digit}
 use Rattle.ground.specs.Part.{byteAt, part}
 use Rattle.diagnostics.specs.Blocks.{Block, ChannelFits, Fitting, RowSays, Says, blockBytes, channel, channelFits, device, deviceFits, firstByte, identifier, identifierFits, itsOwn, rowEnd, rowMore, secondByte, thirdByte, typeZero}
-use Rattle.diagnostics.specs.Channel.{Channel, channelOf, errorOf, errorNumber, typeOf}
+use Rattle.diagnostics_blocks.specs.Channel.{Channel, channelOf, errorOf, errorNumber, typeOf}
 use Rattle.diagnostics.specs.Walk.{blockAt, bodyOf, lengthOf, pictured, walkOf, walkSteps, whole}
 use Rattle.diagnostics.proofs.Bodies.{Kind, channelKind, deviceKind, identifierKind, kind}
-use Rattle.diagnostics.proofs.Numbers.{error-number, type-kept, type-zero}
+use Rattle.diagnostics_blocks.proofs.Numbers.{error-number, type-kept, type-zero}
 use Rattle.diagnostics.proofs.Steps.{StepCase, clash, ended, found, step-case, refusal}
 use Rattle.diagnostics.proofs.Walks.{walk-off, walk-on, walk-refused}
 

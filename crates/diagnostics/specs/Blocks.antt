@@ -5,7 +5,7 @@ use mathlib.Core.List.{List, [], _∷_, _++_}
 use mathlib.Core.Path.{_≡_}
 use lib.ListN.{length}
 use Rattle.ground.specs.Bits.{digit}
-use Rattle.diagnostics.specs.Channel.{Channel, errorOf, errorNumber}
+use Rattle.diagnostics_blocks.specs.Channel.{Channel, errorOf, errorNumber}
 
 -- one block, with the bytes of its body
 pub data Block : Type 0 where

@@ -7,7 +7,7 @@ use mathlib.Core.Option.{Option, some, none}
 use mathlib.Core.Path.{_≡_}
 use lib.ListN.{length}
 use Rattle.ground.specs.Pick.{if}
-use Rattle.diagnostics.specs.Modules.{bitOf, modulesOf}
+use Rattle.diagnostics_blocks.specs.Modules.{bitOf, modulesOf}
 use Rattle.diagnostics.specs.Walk.{PlacedBlock, deviceAt, identifierAt, stepOf}
 
 -- a step moves on by at least one byte, and not past the end of what is walked

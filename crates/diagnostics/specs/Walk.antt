@@ -7,7 +7,7 @@ use lib.Dec.{leb, ltb, eqb}
 use Rattle.ground.specs.Pick.{if}
 use Rattle.ground.specs.Part.{byteAt, shownPart}
 use Rattle.diagnostics.specs.Blocks.{Block, identifier, device, channel}
-use Rattle.diagnostics.specs.Channel.{Channel, channelOf}
+use Rattle.diagnostics_blocks.specs.Channel.{Channel, channelOf}
 
 -- a block in its place: a body by its start and its length
 pub data PlacedBlock : Type 0 where

@@ -1,6 +1,6 @@
 // The walk over the blocks of a store, one step for each call. Promise: `stepOf` in specs/Walk.antt, seen through `shownStep`.
-use crate::channel::ChannelDiagnostics;
 use crate::store::ExtendedDiagnostics;
+use diagnostics_blocks::ChannelDiagnostics;
 use ground::Part;
 use ground::Refusal;
 ghost use mathlib.Core.Path.{_≡_};

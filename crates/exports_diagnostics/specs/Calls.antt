@@ -5,8 +5,8 @@ use mathlib.Core.Bool.{Bool}
 use mathlib.Core.List.{List, [], _∷_}
 use lib.ListN.{getD}
 use Rattle.ground.specs.Bits.{digit}
-use Rattle.diagnostics.specs.Channel.{errorNumber}
-use Rattle.diagnostics.specs.Modules.{bitOf}
+use Rattle.diagnostics_blocks.specs.Channel.{errorNumber}
+use Rattle.diagnostics_blocks.specs.Modules.{bitOf}
 use Rattle.diagnostics.specs.Store.{Filling, fillOf, walkedOf}
 use Rattle.diagnostics.specs.Walk.{PlacedBlock, StepAnswer, Stepped, atEnd, block, channelIs, deviceAt, identifierAt, refused, stepOf}
 

@@ -4,16 +4,17 @@ ghost use mathlib.Core.Path.{_≡_};
 ghost use mathlib.Core.List.{[], _∷_};
 ghost use Prim.Native.Nat.{ℕ};
 ghost use Rattle.ground.specs.Bits.{digit};
-ghost use Rattle.diagnostics.specs.Shown.{shownBlock, shownChannel, shownFound, shownType};
+ghost use Rattle.diagnostics_blocks.specs.Shown.{shownChannel, shownType};
+ghost use Rattle.diagnostics.specs.Shown.{shownBlock, shownFound};
 ghost use Rattle.diagnostics.specs.Walk.{channelIs};
 ghost use Rattle.exports_diagnostics.specs.Calls.{koyDiagnosticsFill, koyDiagnosticsModule, koyDiagnosticsStep, stepCall, toldOf};
-use diagnostics::ChannelDataType;
-use diagnostics::ChannelDiagnostics;
 use diagnostics::ExtDiagBlock;
 use diagnostics::ExtDiagBlockIter;
 use diagnostics::ExtendedDiagnostics;
 use diagnostics::Found;
-use diagnostics::modules;
+use diagnostics_blocks::ChannelDataType;
+use diagnostics_blocks::ChannelDiagnostics;
+use diagnostics_blocks::modules;
 
 // The code at the end of the walk.
 pub const AT_END: u8 = 101;

@@ -9,7 +9,6 @@ use Rattle.initiator.proofs.head.InitiatorHead.order_len as headOrderLe
 use Rattle.initiator.proofs.head.InitiatorHead.restart as headRestart
 use Rattle.initiator.proofs.head.InitiatorHead.silence as headSilence
 use Rattle.initiator.proofs.head.InitiatorHead.submit as headSubmit
-use Rattle.initiator.proofs.state.Initiator.from_parts as initiatorFromParts
 use Rattle.initiator.proofs.state.Initiator.hear as initiatorHear
 use Rattle.initiator.proofs.state.Initiator.new as initiatorNew
 use Rattle.initiator.proofs.state.Initiator.order as order
@@ -38,7 +37,6 @@ pub record Calls : Type 0 where
   pub silence : Determined silence.ended silence.Reads.Learnt
   pub initiatorHear : Determined initiatorHear.ended initiatorHear.Reads.Learnt
   pub initiatorRestart : Determined initiatorRestart.ended initiatorRestart.Reads.Learnt
-  pub initiatorFromParts : Determined initiatorFromParts.ended initiatorFromParts.Reads.Learnt
   pub order : Determined order.ended order.Reads.Learnt
   pub initiatorOwn : Determined initiatorOwn.ended initiatorOwn.Reads.Learnt
   pub initiatorPeer : Determined initiatorPeer.ended initiatorPeer.Reads.Learnt
@@ -81,7 +79,6 @@ determined =
       silence = turned (λ κs. turn-injective) (λ κs a u v p i. (tt, (p i, tt)));
       initiatorHear = turned (λ κs. turn-injective) (λ κs a u v p i. (tt, (tt, (p i, tt))));
       initiatorRestart = seen (λ κs x y e. turn-injective x y [] [] e .0) (λ κs a u v. refl);
-      initiatorFromParts = fixed (λ κs a u v. refl);
       order = fixed (λ κs a u v. refl);
       initiatorOwn = fixed (λ κs a u v. refl);
       initiatorPeer = fixed (λ κs a u v. refl);

@@ -143,7 +143,7 @@ pub(crate) fn send_kept(
 }
 
 impl InitiatorHead {
-    // How many bytes the pending order has; 0 where none is pending.
+    // How many bytes of what is lent are the order: never more than an order may have, whatever the head says.
     pub fn order_len(self) -> usize
         ensures { λ r. ⌜ ((kept : List ℕ) → r ≡ lenOf (wholeOf self kept)) ⌝ }
     {

@@ -89,26 +89,6 @@ impl Initiator {
         Initiator::new(link, DEFAULT_TRIES)
     }
 
-    // The record of these parts, each as it is. With `order` and the questions below it takes a record through a form that another language
-    // can hold; every call answers every record.
-    pub fn from_parts(
-        link: Link,
-        tries: u8,
-        phase: Phase,
-        order: [u8; 246],
-        len: usize,
-    ) -> Initiator
-        ensures { λ r. ⌜ r ≡ record { link = link; tries = tries; phase = phase; order = order; len = len } ⌝ }
-    {
-        Initiator {
-            link,
-            tries,
-            phase,
-            order,
-            len,
-        }
-    }
-
     // The pending order is the first `order_len` bytes of this.
     pub fn order(self) -> [u8; 246]
         ensures { λ r. ⌜ r ≡ self .order ⌝ }
@@ -142,7 +122,7 @@ impl Initiator {
         self.phase
     }
 
-    // How many bytes the pending order has; 0 where none is pending.
+    // How many bytes the pending order has; 0 where none is pending, since an outcome sets the length to 0.
     pub fn order_len(self) -> usize
         ensures { λ r. ⌜ r ≡ lenOf self ⌝ }
     {

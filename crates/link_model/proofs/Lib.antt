@@ -18,3 +18,5 @@ pub mod Coded
 pub mod Scenes
 pub mod Runs
 pub mod Wrong
+-- ends that count, and our ends answered by number
+pub mod Counting

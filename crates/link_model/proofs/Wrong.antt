@@ -3,3 +3,5 @@ pub mod Tools
 pub mod Initiators
 pub mod Responders
 pub mod Carrying
+-- answers by number
+pub mod Numbers

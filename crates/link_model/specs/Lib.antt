@@ -9,3 +9,5 @@ pub mod Responder
 pub mod Ours
 -- the two over any way to write messages as telegrams
 pub mod Coded
+-- any pair of ends whose responder numbers what it hands up
+pub mod Counting

@@ -1,10 +1,11 @@
 -- What a telegram to an end is, by its sender, its code's byte and its PDU: a law for each way through the code that looks at them. A
 -- wrong test in the code then fails at the fact that its law asks for.
 use Prim.Native.Nat.{ℕ, _+_, _*_, _/_, _%_, _<_, _≤_}
-use mathlib.Core.Path.{_≡_, refl}
+use mathlib.Core.Bool.{Bool, true, false}
+use mathlib.Core.Path.{_≡_, refl, ap}
 use native.Mathlib.Omega.{arith}
 use lib.Dec.{eqb}
-use borrow.Author.Tests.{eq-eqb, ne-eqb, le-leb, lt-leb, eqb-true}
+use borrow.Author.Tests.{eq-eqb, ne-eqb, le-leb, lt-leb, eqb-true, eqb-false}
 use Rattle.codes.proofs.FunctionCodeLaws.{read-code}
 use Rattle.codes.proofs.NumberLaws.{state-number-small, status-number-small}
 use Rattle.codes.specs.FunctionCodes.{functionCodeOf, frameCountPart, codeByte, CodeRead, asWritten, bit7Set}
@@ -22,12 +23,13 @@ use Rattle.codes.specs.declared.response.ResponseState.{ResponseState}
 use Rattle.codes.specs.declared.response.ResponseState.the-variants.{Slave}
 use Rattle.codes.specs.declared.response.ResponseStatus.{ResponseStatus}
 use Rattle.codes.specs.declared.response.ResponseStatus.the-variants as status
+use Rattle.ground.proofs.Injective.{zero-one}
 use Rattle.ground.proofs.PickLaws.{picked}
 use Rattle.ground.specs.declared.address.Address.{Address}
 use Rattle.ground.specs.declared.part.Part.{Part}
 use Rattle.link_rules.specs.Rules.{longest}
-use Rattle.link_telegrams.specs.Heard.{dataFrom, requestIn, requestFrom, slaveOf, replyFrom}
-use Rattle.link_telegrams.specs.Leaves.{decodedAs}
+use Rattle.link_telegrams.specs.Heard.{dataFrom, srdOf, requestIn, requestFrom, slaveOf, replyFrom}
+use Rattle.link_telegrams.specs.Leaves.{decodedAs, askedOf, isRequest}
 use Rattle.link_telegrams.specs.declared.headers.Bit.the-variants as bit
 use Rattle.link_telegrams.specs.declared.heard.ReplyHeard.{ReplyHeard}
 use Rattle.link_telegrams.specs.declared.heard.ReplyHeard.the-variants as replyHeard
@@ -91,6 +93,24 @@ module _ (sa : Address) (pdu : Part) (code : ℕ) where
       pub another-code : asked ≡ requestTo.Nothing
       another-code = by-code (functionCodeOf code) refl
 
+  pub first-asks : code ≡ 0x6C → isRequest asked ≡ true
+  unfolding functionCodeOf requestTypeOf
+  first-asks e = rw e
+
+  -- A byte that is neither an opening's nor an order's asks nothing, be it one of SRD low or not.
+  pub nothing-asked :
+      code < 256 → (code ≡ 0x6C → ⊥) → (code ≡ 0x7C → ⊥) → (code ≡ 0x5C → ⊥)
+      → askedOf asked ≡ requestHeard.Nothing
+  nothing-asked byte not-first not-high not-low = by-inactive (eqb code 0x4C) refl
+    where
+      by-inactive : (t : Bool) → eqb code 0x4C ≡ t → askedOf asked ≡ requestHeard.Nothing
+      by-inactive true e = ap askedOf (inactive (eqb-true _ _ e))
+      by-inactive false e = ap askedOf (another-code byte not-first not-high not-low (eqb-false _ _ e))
+
+pub none-asked : (y : RequestTo) → isRequest y ≡ false → y ≡ requestTo.Nothing
+none-asked (requestTo.From sa request) e = absurd (zero-one cc)
+none-asked requestTo.Nothing e = refl
+
 -- The peer's request, and another station's.
 module _ (peer sa : Address) (request : RequestHeard) where
   pub peer-asked : sa .0 ≡ peer .0 → requestFrom peer (requestTo.From sa request) ≡ request
@@ -98,6 +118,38 @@ module _ (peer sa : Address) (request : RequestHeard) where
 
   pub another-asked : (sa .0 ≡ peer .0 → ⊥) → requestFrom peer (requestTo.From sa request) ≡ requestHeard.Nothing
   another-asked e = rw (ne-eqb _ _ e)
+
+-- The request in a telegram has the telegram's sender.
+module _ (sa : Address) (pdu : Part) where
+  abbrev Sent : RequestTo → Type 0
+  Sent y = isRequest y ≡ true → y ≡ requestTo.From sa (askedOf y)
+
+  pub sender-asked : (x : FunctionCodeFound) → Sent (requestIn (decodedAs sa pdu x))
+  sender-asked (codeFound.Is (Request f req)) e =
+      picked Sent (eqb (requestNumber req) (requestNumber SrdLow)) (λ t q. refl) (λ t q. absurd (zero-one cc)) e
+  sender-asked (codeFound.Is (Response state s)) e = absurd (zero-one cc)
+  sender-asked codeFound.Nothing e = absurd (zero-one cc)
+
+  module _ (peer : Address) where
+    pub sent-by-peer :
+        sa .0 ≡ peer .0 → (x : FunctionCodeFound)
+        → requestFrom peer (requestIn (decodedAs sa pdu x)) ≡ askedOf (requestIn (decodedAs sa pdu x))
+    sent-by-peer e (codeFound.Is (Request f req)) =
+        picked (λ y. requestFrom peer y ≡ askedOf y) (eqb (requestNumber req) (requestNumber SrdLow))
+        (λ t. peer-asked peer sa (srdOf f pdu) e)
+        (λ t. refl)
+    sent-by-peer e (codeFound.Is (Response state s)) = refl
+    sent-by-peer e codeFound.Nothing = refl
+
+    pub sent-by-another :
+        (sa .0 ≡ peer .0 → ⊥) → (x : FunctionCodeFound)
+        → requestFrom peer (requestIn (decodedAs sa pdu x)) ≡ requestHeard.Nothing
+    sent-by-another d (codeFound.Is (Request f req)) =
+        picked (λ y. requestFrom peer y ≡ requestHeard.Nothing) (eqb (requestNumber req) (requestNumber SrdLow))
+        (λ t. another-asked peer sa (srdOf f pdu) d)
+        (λ t. refl)
+    sent-by-another d (codeFound.Is (Response state s)) = refl
+    sent-by-another d codeFound.Nothing = refl
 
 -- ---- a response to the station, by its code's byte
 

@@ -100,8 +100,10 @@ module _ (own : Address) (s : List ℕ) where
   no-start {k} e = no-frame (λ f is. let z : frameRefused k ≡ frameIs f = sym e ∙ is in zero-one cc)
 
   module _ (f : Frame) (found : framingOf s ≡ frameIs f) where
-    pub not-filling : (f .total ≡ length s → ⊥) → dataToOf own s ≡ noData
-    not-filling d = nothing-of (λ t n e. rw (framed-data s f found e .total, ne-eqb _ _ d))
+    pub not-filling : (f .at + f .len + 2 ≡ length s → ⊥) → dataToOf own s ≡ noData
+    not-filling d =
+        nothing-of
+        (λ t n e. rw (framed-data s f found e .total, ne-eqb (f .total) (length s) (λ q. d (found-frame s f found .counted ∙ q))))
 
     not-to : ((fc : FunctionCode) → isTo (headerAt s (f .at) fc) own ≡ false) → dataToOf own s ≡ noData
     not-to other =
@@ -123,7 +125,7 @@ module _ (own : Address) (s : List ℕ) where
 
     -- a telegram to the station, under the code of its byte if that is one
     module _
-        (fills : f .total ≡ length s) (to : byteAt s (f .at) ≡ own .0)
+        (fills : f .at + f .len + 2 ≡ length s) (to : byteAt s (f .at) ≡ own .0)
         (low-da : byteAt s (f .at) ≤ 127) (low-sa : byteAt s (f .at + 1) ≤ 127) (sealed : sealedOf f s ≡ true)
       where
         by-code :
@@ -138,7 +140,7 @@ module _ (own : Address) (s : List ℕ) where
             let read = sealed-reads s f found sealed (omega (arith, saps, found-frame s f found .long)) fc e in
             rw (
               read,
-              eq-eqb (f .total) (length s) fills,
+              eq-eqb (f .total) (length s) (sym (found-frame s f found .counted) ∙ fills),
               own-named own s (f .at) fc da sa to,
               sender-named own s (f .at) fc da sa,
               saps,

@@ -5,8 +5,8 @@ ghost use Prim.Native.Nat.{_+_, _≤_};
 ghost use lib.ListN.{length};
 ghost use Rattle.codes.specs.FunctionCodes.{functionCodeOf};
 ghost use Rattle.telegram.specs.Frames.{framingOf, frameIs};
-ghost use Rattle.link_telegrams.specs.Heard.{dataToOf, requestIn, requestToOf, requestHeardOf, replyFrom, replyHeardOf};
-ghost use Rattle.link_telegrams.specs.Leaves.{decodedAs, decoded};
+ghost use Rattle.link_telegrams.specs.Heard.{dataToOf, requestIn, requestToOf, requestFrom, requestHeardOf, replyFrom, replyHeardOf};
+ghost use Rattle.link_telegrams.specs.Leaves.{decodedAs, decoded, askedOf, isRequest};
 use crate::headers::Bit;
 use ground::Address;
 use ground::Part;
@@ -56,15 +56,16 @@ pub enum ReplyHeard {
     Nothing,
 }
 
-// Of a frame that was found in the heard bytes. An address byte above 127 announces a SAP. The checksum costs the most and comes last.
+// Of a frame that was found in the heard bytes. Whether it fills them is asked of its place and length, from which the seal is told too.
+// An address byte above 127 announces a SAP. The checksum costs the most and comes last.
 fn plain_in(own: Address, heard: &[u8], frame: Frame) -> PlainHeard
     requires { ⌜ (framingOf (now heard) ≡ frameIs frame) × (3 ≤ frame .len) × (frame .at + frame .len + 2 ≤ length (now heard)) ⌝ }
     ensures { λ r. ⌜ decoded r ≡ dataToOf own (now (heard .entry)) ⌝ }
 {
-    if frame.total != heard.len() {
+    let at = frame.at;
+    if at + frame.len + 2 != heard.len() {
         return PlainHeard::Nothing;
     }
-    let at = frame.at;
     let da = heard[at];
     let sa = heard[at + 1];
     if da != own.0 {
@@ -97,22 +98,55 @@ fn plain_to(own: Address, heard: &[u8]) -> PlainHeard
     }
 }
 
-// What a telegram to a responder asks.
-fn request_in(sa: Address, code: u8, pdu: Part) -> RequestTo
-    ensures { λ r. ⌜ r ≡ requestIn (decodedAs sa pdu (functionCodeOf code)) ⌝ }
+// What a telegram asks of a responder, whoever sent it.
+fn asked(code: u8, pdu: Part) -> RequestHeard
+    ensures { λ r. ⌜ ((sa : Address) → r ≡ askedOf (requestIn (decodedAs sa pdu (functionCodeOf code)))) ⌝ }
 {
     match code {
         FIRST => {
             if pdu.len == 0 {
-                RequestTo::From(sa, RequestHeard::Opening)
+                RequestHeard::Opening
             } else {
-                RequestTo::From(sa, RequestHeard::Nothing)
+                RequestHeard::Nothing
             }
         }
-        HIGH => RequestTo::From(sa, RequestHeard::Order(Bit::High, pdu)),
-        LOW => RequestTo::From(sa, RequestHeard::Order(Bit::Low, pdu)),
-        INACTIVE => RequestTo::From(sa, RequestHeard::Nothing),
-        _ => RequestTo::Nothing,
+        HIGH => RequestHeard::Order(Bit::High, pdu),
+        LOW => RequestHeard::Order(Bit::Low, pdu),
+        _ => RequestHeard::Nothing,
+    }
+}
+
+fn is_srd_low(code: u8) -> bool
+    ensures { λ r. ⌜ ((sa : Address) (pdu : Part) → r ≡ isRequest (requestIn (decodedAs sa pdu (functionCodeOf code)))) ⌝ }
+{
+    match code {
+        FIRST => true,
+        HIGH => true,
+        LOW => true,
+        INACTIVE => true,
+        _ => false,
+    }
+}
+
+// A telegram to a responder, with its sender.
+fn request_in(sa: Address, code: u8, pdu: Part) -> RequestTo
+    ensures { λ r. ⌜ r ≡ requestIn (decodedAs sa pdu (functionCodeOf code)) ⌝ }
+{
+    if is_srd_low(code) {
+        RequestTo::From(sa, asked(code, pdu))
+    } else {
+        RequestTo::Nothing
+    }
+}
+
+// What a telegram asks of the responder of a link: the sender is looked at first, since that is the shorter way to both answers.
+fn request_from(peer: Address, sa: Address, code: u8, pdu: Part) -> RequestHeard
+    ensures { λ r. ⌜ r ≡ requestFrom peer (requestIn (decodedAs sa pdu (functionCodeOf code))) ⌝ }
+{
+    if sa.0 == peer.0 {
+        asked(code, pdu)
+    } else {
+        RequestHeard::Nothing
     }
 }
 
@@ -132,13 +166,9 @@ pub fn request_heard(link: Link, heard: &[u8]) -> RequestHeard
 {
     let own = link.own;
     let peer = link.peer;
-    let RequestTo::From(sa, request) = request_to(own, heard) else {
-        return RequestHeard::Nothing;
-    };
-    if sa.0 == peer.0 {
-        request
-    } else {
-        RequestHeard::Nothing
+    match plain_to(own, heard) {
+        PlainHeard::From(sa, code, pdu) => request_from(peer, sa, code, pdu),
+        PlainHeard::Nothing => RequestHeard::Nothing,
     }
 }
 

@@ -1,9 +1,10 @@
 -- Runs of the calls on the bytes of the line, computed: so that demand 3 does not hold for want of cases. The initiator is station 2,
--- the responder station 5, and each run is shown to be one that the line's law allows.
+-- the responder station 5, and each run is shown to be one that the line's law allows. Read `Runs`, then `LastSentence`.
 use Prim.Native.Nat.{ℕ}
 use mathlib.Core.Bool.{false}
 use mathlib.Core.List.{List, [], _∷_, _++_}
-use mathlib.Core.Path.{_≡_, refl}
+use mathlib.Core.Path.{_≡_, refl, subst}
+use lib.Dec.{lit≤, T, eqb}
 use lib.ListN.{replicate}
 use Rattle.ground.specs.Front.{copiedTo}
 use Rattle.codes.specs.Checksums.{sumOf, checksumOf}
@@ -13,14 +14,16 @@ use Rattle.codes.specs.RequestTypes.{requestTypeOf}
 use Rattle.codes.specs.Responses.{stateOf, statusOf}
 use Rattle.initiator.specs.Calls.{submitOf, silenceOf, hearOf, restartOf}
 use Rattle.initiator.specs.Records.{madeOf}
-use Rattle.demand_3.specs.History.{made, handUp, ended, Entry, entry, History, history}
-use Rattle.demand_3.specs.Line.{Pair, State, Call, submits, silent, initiatorHears, initiatorRestarts, responderHears, answers, step, start, run, Obeys, inFlight, stray}
-use Rattle.demand_3.specs.Live.{reportAt, Wide, Prompt, passes}
+use Rattle.demand_3.specs.History.{made, handUp, abandoned, ended, Entry, entry, History, history, openingSent}
+use Rattle.demand_3.specs.Line.{Pair, State, Call, initiatorMade, submits, silent, initiatorHears, initiatorRestarts, responderHears, answers, step, start, run, Obeys, inFlight, stray}
+use Rattle.demand_3.specs.Live.{reportAt, Confirmed, Wide, Prompt, passes, over, responderServes, passed, again, Phases, opensFirst}
 use Rattle.demand_3.specs.Safe.{entriesOf}
 use Rattle.demand_3.specs.Turns.{confirmed, notSent, unknown}
-use Rattle.link_rules.specs.Rules.{wrongAddresses, wrongTries, wrongLength}
+use Rattle.link_model.proofs.Wrong.Tools.{two-tries}
+use Rattle.link_rules.specs.Rules.{Linked, linkOf, wrongAddresses, wrongTries, wrongLength}
 use Rattle.link_telegrams.specs.Headers.{openingHeader, orderHeader, okHeader, replyHeader}
 use Rattle.link_telegrams.specs.Heard.{dataToOf, requestToOf, requestHeardOf, replyHeardOf}
+use Rattle.link_theorem.proofs.Theorem.{demand-3}
 use Rattle.link_theorem.specs.OrderLink.{bearsBoth, orderLink}
 use Rattle.responder.specs.Calls as responder
 use Rattle.responder.specs.Records as responderRecords
@@ -31,7 +34,7 @@ use Rattle.telegram_tx.specs.Writing.{sendOf, writeOf}
 
 -- stations 2 and 5
 abbrev pub link : Pair
-link = orderLink (record { own = record { 0 = 2 }; peer = record { 0 = 5 } })
+link = orderLink (linkOf 2 5)
 
 -- a buffer of 255 bytes
 abbrev pub room : List ℕ
@@ -91,17 +94,23 @@ repeated =
     ∷ initiatorHears room secondReply
     ∷ []
 
--- The accident: the initiator restarts between two orders.
-abbrev accident : List (Call link)
-accident =
-    initiatorRestarts
-    ∷ submits room (0x02 ∷ [])
+-- the order 02 on a closed link, with nothing lost, and what is then known of it
+abbrev openedAnew : List (Call link)
+openedAnew =
+    submits room (0x02 ∷ [])
     ∷ responderHears room opening
     ∷ initiatorHears room ok
     ∷ responderHears room orderLow
     ∷ answers room (0x08 ∷ [])
     ∷ initiatorHears room secondReply
     ∷ []
+
+abbrev second : Entry
+second = entry (0x02 ∷ []) (handUp (0x02 ∷ []) (made (0x08 ∷ [])) ∷ []) (ended (confirmed (0x08 ∷ []) 1)) 1 1
+
+-- The accident: the initiator restarts between two orders.
+abbrev accident : List (Call link)
+accident = initiatorRestarts ∷ openedAnew
 
 -- The telegram heard after a restart: the order is in flight when the initiator restarts, and is heard and answered then.
 abbrev heardLate : List (Call link)
@@ -113,6 +122,42 @@ heardLate =
     ∷ responderHears room order
     ∷ answers room (0x07 ∷ [])
     ∷ initiatorHears room reply
+    ∷ []
+
+-- The same with the initiator's record made anew: no one is left to report the order that is in flight.
+abbrev heardAbandoned : List (Call link)
+heardAbandoned =
+    submits room (0x01 ∷ 0x03 ∷ [])
+    ∷ responderHears room opening
+    ∷ initiatorHears room ok
+    ∷ initiatorMade 2
+    ∷ responderHears room order
+    ∷ answers room (0x07 ∷ [])
+    ∷ initiatorHears room reply
+    ∷ []
+
+-- the first opening is lost, and the second passes
+abbrev openedAtSecond : List (Call link)
+openedAtSecond =
+    submits room (0x01 ∷ 0x03 ∷ [])
+    ∷ silent room
+    ∷ responderHears room opening
+    ∷ initiatorHears room ok
+    ∷ responderHears room order
+    ∷ answers room (0x07 ∷ [])
+    ∷ initiatorHears room reply
+    ∷ []
+
+-- the order is carried out; its reply is lost, and so is the order's second try
+abbrev cutOff : List (Call link)
+cutOff =
+    submits room (0x01 ∷ 0x03 ∷ [])
+    ∷ responderHears room opening
+    ∷ initiatorHears room ok
+    ∷ responderHears room order
+    ∷ answers room (0x07 ∷ [])
+    ∷ silent room
+    ∷ silent room
     ∷ []
 
 -- all tries of an opening are lost: the first to an echo, the second to noise, with a silence refused for want of room between
@@ -139,8 +184,21 @@ abbrev prompt : Prompt link
 prompt = record { bytes = 0x07 ∷ []; isAnswerable = refl; into = wide }
 
 -- The last sentence in its own terms: the order is submitted, and the first try of each phase passes both ways.
-abbrev passed : State link
-passed = passes link wide prompt wide (passes link wide prompt wide (step link (start link 2) (submits room (0x01 ∷ 0x03 ∷ []))))
+abbrev submittedFirst : State link
+submittedFirst = step link (start link 2) (submits room (0x01 ∷ 0x03 ∷ []))
+
+abbrev passedAtFirst : State link
+passedAtFirst = passes link wide prompt wide (passes link wide prompt wide submittedFirst)
+
+-- It is submitted, and the second try of each phase passes: the first opening is lost; the first order is handed up and answered at
+-- once, and the reply is lost.
+abbrev opened : State link
+opened = passes link wide prompt wide (step link submittedFirst (silent room))
+
+abbrev passedAtSecond : State link
+passedAtSecond =
+    passes link wide prompt wide
+    (step link (step link (step link opened (responderHears room order)) (answers room (0x07 ∷ []))) (silent room))
 
 pub record Runs : Type 0 where
   pub an-order-is-confirmed : Ends ordinary (history (first ∷ []) ((0x01 ∷ 0x03 ∷ []) ∷ []) false)
@@ -150,15 +208,27 @@ pub record Runs : Type 0 where
       (history (entry (0x02 ∷ []) (handUp (0x02 ∷ []) (made (0x08 ∷ [])) ∷ []) (ended (confirmed (0x08 ∷ []) 2)) 0 2 ∷ first ∷ [])
       ((0x02 ∷ []) ∷ (0x01 ∷ 0x03 ∷ []) ∷ []) false)
   pub the-accident-ends-well :
-      Ends (ordinary ++ accident)
-      (history (entry (0x02 ∷ []) (handUp (0x02 ∷ []) (made (0x08 ∷ [])) ∷ []) (ended (confirmed (0x08 ∷ []) 1)) 1 1 ∷ first ∷ [])
-      ((0x02 ∷ []) ∷ (0x01 ∷ 0x03 ∷ []) ∷ []) false)
+      Ends (ordinary ++ accident) (history (second ∷ first ∷ []) ((0x02 ∷ []) ∷ (0x01 ∷ 0x03 ∷ []) ∷ []) false)
   -- the order is reported unknown, and carried out afterwards; its late reply is no second outcome
   pub an-order-is-heard-after-the-restart :
       Ends heardLate
       (history (entry (0x01 ∷ 0x03 ∷ []) (handUp (0x01 ∷ 0x03 ∷ []) (made (0x07 ∷ [])) ∷ []) (ended (unknown 1)) 1 1 ∷ [])
       ((0x01 ∷ 0x03 ∷ []) ∷ []) false)
-  pub both-phases-pass : reportAt 0 (entriesOf (passed .past)) ≡ ended (confirmed (0x07 ∷ []) 1)
+  -- nothing is ever reported of the order, and it is carried out afterwards; the next one shows its own reply
+  pub an-abandoned-order-is-heard :
+      Ends (heardAbandoned ++ openedAnew)
+      (history (second ∷ entry (0x01 ∷ 0x03 ∷ []) (handUp (0x01 ∷ 0x03 ∷ []) (made (0x07 ∷ [])) ∷ []) abandoned 1 1 ∷ [])
+      ((0x02 ∷ []) ∷ (0x01 ∷ 0x03 ∷ []) ∷ []) false)
+  -- the tries that are reported are those of the order's phase
+  pub the-second-opening-passes :
+      Ends openedAtSecond
+      (history (entry (0x01 ∷ 0x03 ∷ []) (handUp (0x01 ∷ 0x03 ∷ []) (made (0x07 ∷ [])) ∷ []) (ended (confirmed (0x07 ∷ []) 1)) 2 1 ∷ [])
+      ((0x01 ∷ 0x03 ∷ []) ∷ []) false)
+  pub an-order-ends-unknown :
+      Ends cutOff
+      (history (entry (0x01 ∷ 0x03 ∷ []) (handUp (0x01 ∷ 0x03 ∷ []) (made (0x07 ∷ [])) ∷ []) (ended (unknown 2)) 1 2 ∷ [])
+      ((0x01 ∷ 0x03 ∷ []) ∷ []) false)
+  pub both-phases-pass : reportAt 0 (entriesOf (passedAtFirst .past)) ≡ ended (confirmed (0x07 ∷ []) 1)
   pub a-dead-line-sends-nothing : Ends deadLine (history (entry (0x02 ∷ []) [] (ended (notSent 2)) 2 0 ∷ []) [] false)
 
 pub runs : Runs
@@ -179,7 +249,48 @@ runs =
           };
       an-order-is-heard-after-the-restart =
           record { lawful = (tt, (inFlight, (inFlight, (tt, (inFlight, (tt, (inFlight, tt))))))); past = refl };
+      an-abandoned-order-is-heard =
+          record {
+            lawful =
+                (tt, (inFlight, (inFlight, (two-tries, (inFlight, (tt, (inFlight, (tt, (inFlight, (inFlight, (inFlight, (tt, (inFlight, tt)))))))))))));
+            past = refl;
+          };
+      the-second-opening-passes =
+          record { lawful = (tt, (tt, (inFlight, (inFlight, (inFlight, (tt, (inFlight, tt))))))); past = refl };
+      an-order-ends-unknown =
+          record { lawful = (tt, (inFlight, (inFlight, (inFlight, (tt, (tt, (tt, tt))))))); past = refl };
       both-phases-pass = refl;
       a-dead-line-sends-nothing =
           record { lawful = (tt, (inFlight, (tt, (tt, (stray refl, (tt, tt)))))); past = refl };
+    }
+
+linked : Linked (linkOf 2 5)
+linked = record { own-small = lit≤ tt; peer-small = lit≤ tt; differ = λ e. subst (λ n. T (eqb 2 n)) e tt }
+
+-- The last sentence of demand 3, applied: its premise is met by a run, the theorem says that the order is confirmed, and so it is.
+pub record LastSentence : Type 0 where
+  -- "for some k from 1 to the tries": here 2 in each phase
+  pub premise : Phases link openingSent submittedFirst passedAtSecond
+  pub conclusion : Confirmed 0 (passedAtSecond .past)
+  pub computed : reportAt 0 (entriesOf (passedAtSecond .past)) ≡ ended (confirmed (0x07 ∷ []) 2)
+
+second-tries : Phases link openingSent submittedFirst passedAtSecond
+unfolding wrongAddresses wrongTries wrongLength sumOf checksumOf codeByte functionCodeOf requestTypeOf stateOf statusOf headerAt sapsAt contentOf frameOf lengthsOf dataOf tokenOf readOf headBytes coveredBytes lengthByte startBytes telegramBytes sendOf writeOf shownPart copiedTo submitOf silenceOf hearOf restartOf madeOf openingHeader orderHeader okHeader replyHeader dataToOf requestToOf requestHeardOf replyHeardOf responder.hearOf responder.answerOf responderRecords.madeOf rowHears rowAnswers bearsBoth
+second-tries =
+    opensFirst
+    (record { k = 2; fromOne = lit≤ tt; toTries = lit≤ tt; tried = again over wide (passed wide prompt wide) })
+    (record {
+      k = 2;
+      fromOne = lit≤ tt;
+      toTries = lit≤ tt;
+      tried = again (responderServes room order inFlight (0x01 ∷ 0x03 ∷ []) refl prompt over) wide (passed wide prompt wide);
+    })
+
+pub last-sentence : LastSentence
+unfolding wrongAddresses wrongTries wrongLength sumOf checksumOf codeByte functionCodeOf requestTypeOf stateOf statusOf headerAt sapsAt contentOf frameOf lengthsOf dataOf tokenOf readOf headBytes coveredBytes lengthByte startBytes telegramBytes sendOf writeOf shownPart copiedTo submitOf silenceOf hearOf restartOf madeOf openingHeader orderHeader okHeader replyHeader dataToOf requestToOf requestHeardOf replyHeardOf responder.hearOf responder.answerOf responderRecords.madeOf rowHears rowAnswers bearsBoth
+last-sentence =
+    record {
+      premise = second-tries;
+      conclusion = demand-3 (linkOf 2 5) linked .live 2 two-tries [] tt room (0x01 ∷ 0x03 ∷ []) passedAtSecond tt refl second-tries;
+      computed = refl;
     }

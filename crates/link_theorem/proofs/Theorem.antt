@@ -14,6 +14,8 @@ use Rattle.link_rules.specs.Rules.{Linked, longest, turned, wrongLength}
 use Rattle.link_rules.specs.declared.link.Link.{Link}
 use Rattle.link_model.proofs.Coded.{coded-follower-demand}
 use Rattle.demand_3.proofs.Follows.{Follows}
+use Rattle.demand_3.proofs.Owing.{Owing, owing-same}
+use Rattle.link_model.proofs.Counting.{coded-owing}
 use Rattle.link_model.specs.Coded.{coded, requestOf}
 use Rattle.demand_3.specs.Demand.{Demand}
 use Rattle.link_model.specs.Messages as message
@@ -78,3 +80,8 @@ module _ (link : Link) (linked : Linked link) where
   -- document 01's line.
   pub demand-3 : Demand (orderLink link)
   demand-3 = coded-follower-demand (codec link) (codec-faithful link linked) (orderLink link) calls-follow
+
+  -- when the responder's record owes a reply
+  pub owing : Owing (orderLink link)
+  unfolding calls-follow
+  owing = owing-same (orderLink link) (coded (codec link)) calls-follow (λ s. tt) (coded-owing (codec link))

@@ -22,16 +22,16 @@ use Rattle.telegram.specs.declared.kinds.Telegram.the-variants as telegram
 use Rattle.telegram.proofs.Answers.{Answered, confirmation, token-whole, sd1, sd2, sd3, code-known, content-whole}
 use Rattle.telegram.proofs.ReadingLaws.{reason, total-within, total-positive, total-small, pdu-ends, addresses-small, refused-numbered}
 use Rattle.text.proofs.DecimalLaws.{small-length}
-use Rattle.listing.specs.declared.line.End.{End}
-use Rattle.listing.specs.declared.line.End.the-variants.{Done, Incomplete, Refused}
-use Rattle.listing.specs.declared.line.Kind.the-variants.{Token, Data}
-use Rattle.listing.specs.declared.line.Line.{Line}
-use Rattle.listing.specs.declared.line.Item.{Item}
-use Rattle.listing.specs.declared.line.Item.the-variants as item
-use Rattle.listing.specs.Leaves.{shownEnd, itemText, itemRead, itemOf}
-use Rattle.listing.specs.Lines.{figureOf, lineOf, endOf}
+use Rattle.listing_lines.specs.declared.line.End.{End}
+use Rattle.listing_lines.specs.declared.line.End.the-variants.{Done, Incomplete, Refused}
+use Rattle.listing_lines.specs.declared.line.Kind.the-variants.{Token, Data}
+use Rattle.listing_lines.specs.declared.line.Line.{Line}
+use Rattle.listing_lines.specs.declared.line.Item.{Item}
+use Rattle.listing_lines.specs.declared.line.Item.the-variants as item
+use Rattle.listing.specs.Leaves.{itemRead, itemOf}
+use Rattle.listing_lines.specs.Lines.{figureOf, lineOf, endOf, shownEnd, itemText}
 use Rattle.listing.specs.Telegrams.{codePlace, sapFigure, lineAt}
-use Rattle.listing.proofs.LineLaws.{line-length, figure-length, four-digits, line-short, end-length}
+use Rattle.listing_lines.proofs.LineLaws.{line-length, figure-length, four-digits, line-short, end-length}
 
 -- ---- the reason for an item
 

@@ -5,8 +5,6 @@ pub mod AnswerLaws
 pub mod ListingLaws
 -- the item at a place
 pub mod ItemLaws
--- a line: its pieces placed, and its length
-pub mod LineLaws
 -- the listing by example, and what `bytes=` says of every input
 pub mod Samples
 -- no second outcome fits the promise of any public call

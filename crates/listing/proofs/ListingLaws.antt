@@ -13,15 +13,15 @@ use Rattle.telegram.proofs.StreamLaws.{stream-done, stream-telegram, stream-inc
 use Rattle.text.specs.Decimal.{decimalOf}
 use Rattle.text.specs.Placed.{Placed}
 use Rattle.text.proofs.PlacedLaws.{none, then}
-use Rattle.listing.specs.declared.line.End.{End}
-use Rattle.listing.specs.declared.line.Line.{Line}
-use Rattle.listing.specs.declared.line.Item.{Item}
-use Rattle.listing.specs.declared.line.Item.the-variants.{Telegram, Last}
-use Rattle.listing.specs.Leaves.{shownEnd, itemText, itemOf, linesAt}
-use Rattle.listing.specs.Lines.{lineOf, endOf}
+use Rattle.listing_lines.specs.declared.line.End.{End}
+use Rattle.listing_lines.specs.declared.line.Line.{Line}
+use Rattle.listing_lines.specs.declared.line.Item.{Item}
+use Rattle.listing_lines.specs.declared.line.Item.the-variants.{Telegram, Last}
+use Rattle.listing.specs.Leaves.{itemOf, linesAt}
+use Rattle.listing_lines.specs.Lines.{lineOf, endOf, shownEnd, itemText}
 use Rattle.listing.specs.Listing.{eventLine, linesOf, streamText, bytesLine, listingOf, listingRoom}
 use Rattle.listing.specs.Telegrams.{lineAt}
-use Rattle.listing.proofs.LineLaws.{four-digits}
+use Rattle.listing_lines.proofs.LineLaws.{four-digits}
 use Rattle.listing.proofs.ItemLaws.{ItemFor, at-end, of-telegram, of-incomplete, of-refused, item-reason, line-place, line-lies, line-fits, last-length}
 
 -- ---- the lines from a place on, item by item

@@ -16,7 +16,7 @@ use Rattle.text.specs.Decimal.{digits, decimalOf, isDigit, digitsIn, numberAt}
 use Rattle.text.specs.Quoted.{bytesOf}
 use Rattle.text.specs.declared.decimal.Number.the-variants.{Is}
 use Rattle.text.proofs.ReadingLaws.{number-written}
-use Rattle.listing.specs.Lines.{placeOf, headerOf, contentOf, lineOf, endOf}
+use Rattle.listing_lines.specs.Lines.{placeOf, headerOf, contentOf, lineOf, endOf}
 use Rattle.listing.specs.Listing.{streamText, bytesLine, listingOf, outputOf}
 use Rattle.listing.proofs.AnswerLaws.{output-long}
 

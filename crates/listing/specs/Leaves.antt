@@ -5,26 +5,12 @@ use lib.Dec.{eqb}
 use lib.ListN.{length, drop}
 use Rattle.ground.specs.Pick.{if}
 use Rattle.telegram.specs.Reading.{Reading, whole, incomplete, refused, readOf}
-use Rattle.telegram.specs.Stream.{Ending, streamAt}
-use Rattle.telegram.specs.Stream as ending
-use Rattle.listing.specs.declared.line.End.{End}
-use Rattle.listing.specs.declared.line.End.the-variants.{Done, Incomplete, Refused}
-use Rattle.listing.specs.declared.line.Item.{Item}
-use Rattle.listing.specs.declared.line.Item.the-variants.{Telegram, Last}
-use Rattle.listing.specs.Lines.{lineOf, endOf}
+use Rattle.telegram.specs.Stream.{streamAt}
+use Rattle.listing_lines.specs.declared.line.End.the-variants.{Done, Incomplete, Refused}
+use Rattle.listing_lines.specs.declared.line.Item.{Item}
+use Rattle.listing_lines.specs.declared.line.Item.the-variants.{Telegram, Last}
 use Rattle.listing.specs.Listing.{streamText}
 use Rattle.listing.specs.Telegrams.{lineAt}
-
--- an end of the code, as the stream's
-abbrev pub shownEnd : End → Ending
-shownEnd Done = ending.done
-shownEnd Incomplete = ending.incomplete
-shownEnd (Refused number) = ending.refused number
-
--- the line of an item
-abbrev pub itemText : Item → List ℕ
-itemText (Telegram line) = lineOf line
-itemText (Last end at) = endOf (shownEnd end) at
 
 -- the item at a place, by what the reader answers there
 abbrev pub itemRead : ℕ → List ℕ → Reading → Item

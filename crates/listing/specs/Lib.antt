@@ -1,6 +1,4 @@
--- Read `Listing`, the whole text, over the stream of crate `telegram`; then `Answers`, what the two calls promise.
--- a line's figures, and its bytes
-pub mod Lines
+-- Read `Listing`, the whole text, over the stream of crate `telegram` and the lines of crate `listing_lines`; then `Answers`, what the two calls promise.
 -- the line of a telegram
 pub mod Telegrams
 -- the whole text

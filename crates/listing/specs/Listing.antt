@@ -7,8 +7,8 @@ use Rattle.ground.specs.Pick.{if}
 use Rattle.telegram.specs.Stream.{Event, Stream, streamOf}
 use Rattle.text.specs.Decimal.{decimalOf}
 use Rattle.text.specs.Quoted.{bytesOf}
-use Rattle.listing.specs.declared.line.Line.{Line}
-use Rattle.listing.specs.Lines.{lineOf, endOf}
+use Rattle.listing_lines.specs.declared.line.Line.{Line}
+use Rattle.listing_lines.specs.Lines.{lineOf, endOf}
 use Rattle.listing.specs.Telegrams.{lineAt}
 
 -- the line of a telegram of the stream; its `fc` is taken from the input

@@ -9,10 +9,10 @@ use Rattle.telegram.specs.declared.header.SapOption.{SapOption}
 use Rattle.telegram.specs.declared.header.SapOption.the-variants.{Some, None}
 use Rattle.telegram.specs.declared.kinds.Telegram.{Telegram}
 use Rattle.telegram.specs.declared.kinds.Telegram.the-variants as telegram
-use Rattle.listing.specs.declared.line.Figure.{Figure}
-use Rattle.listing.specs.declared.line.Figure.the-variants.{Number, Absent}
-use Rattle.listing.specs.declared.line.Kind.the-variants.{Ack, Token, Data}
-use Rattle.listing.specs.declared.line.Line.{Line}
+use Rattle.listing_lines.specs.declared.line.Figure.{Figure}
+use Rattle.listing_lines.specs.declared.line.Figure.the-variants.{Number, Absent}
+use Rattle.listing_lines.specs.declared.line.Kind.the-variants.{Ack, Token, Data}
+use Rattle.listing_lines.specs.declared.line.Line.{Line}
 
 -- where a data telegram's function code stands: behind the delimiter (of SD2: its four bytes), da and sa
 abbrev pub codePlace : List ℕ → ℕ

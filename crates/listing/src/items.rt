@@ -1,12 +1,11 @@
 // What is listed at a place of the input, by what the reader answers there. Promises: `lineAt` in specs/Telegrams.antt, `itemOf` in
 // specs/Leaves.antt.
-use crate::line::End;
-use crate::line::Figure;
-use crate::line::Item;
-use crate::line::Kind;
-use crate::line::Line;
-use crate::line::wide;
 use codes::consts;
+use listing_lines::End;
+use listing_lines::Figure;
+use listing_lines::Item;
+use listing_lines::Kind;
+use listing_lines::Line;
 use telegram::DataTelegram;
 use telegram::Deserialized;
 use telegram::SapOption;
@@ -21,6 +20,13 @@ ghost use Rattle.telegram.specs.Reading.{readOf, whole};
 ghost use Rattle.telegram.specs.declared.kinds.Telegram.the-variants.{Data, Token, ShortConfirmation};
 ghost use Rattle.listing.specs.Leaves.{itemOf};
 ghost use Rattle.listing.specs.Telegrams.{codePlace, sapFigure, lineAt};
+
+// A byte as a number of another width.
+fn wide(byte: u8) -> usize
+    ensures { λ r. ⌜ r ≡ byte ⌝ }
+{
+    byte as usize
+}
 
 fn sap_figure(sap: SapOption) -> Figure
     ensures { λ r. ⌜ r ≡ sapFigure sap ⌝ }

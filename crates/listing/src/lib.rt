@@ -1,7 +1,6 @@
 // The lister's whole text, from any input into a lent buffer: `list` makes the listing, `output` all that the program prints. The text is that of the
-// input's stream, whose rule stands in crate `telegram`.
+// input's stream, whose rule stands in crate `telegram`; its lines are those of crate `listing_lines`.
 mod items;
-mod line;
 pub mod whole;
 
 pub use whole::INPUT_LIMIT;

@@ -1,16 +1,17 @@
 // The whole text: counted first, then put to the front of the buffer. Promise: `Printed` in specs/Answers.antt, of `listingOf` and `outputOf` in
 // specs/Listing.antt.
 use crate::items::item_at;
-use crate::line::Item;
-use crate::line::put_item;
 use ground::Part;
 use ground::Refusal;
+use listing_lines::Item;
+use listing_lines::put_item;
 ghost use mathlib.Core.Path.{_≡_};
 ghost use Prim.Native.Nat.{_+_, _≤_};
 ghost use lib.ListN.{length};
 ghost use Rattle.text.specs.Placed.{Placed};
+ghost use Rattle.listing_lines.specs.Lines.{itemText};
 ghost use Rattle.listing.specs.Answers.{textIn, listOf, printedOf, Printed};
-ghost use Rattle.listing.specs.Leaves.{itemText, linesAt};
+ghost use Rattle.listing.specs.Leaves.{linesAt};
 ghost use Rattle.listing.specs.Listing.{listingOf, refusedLine, outputOf};
 
 // An input above it is refused by 22.

@@ -54,7 +54,8 @@ impl Responder {
         }
     }
 
-    // The record of these parts, each as it is.
+    // The record of these parts, each as it is. Every call answers every record; but one of other parts than those of a record that the
+    // calls made is none of theirs, and demand 3 holds of no such record.
     pub fn from_parts(link: Link, row: Row) -> Responder
         ensures { λ r. ⌜ r ≡ record { link = link; row = row } ⌝ }
     {

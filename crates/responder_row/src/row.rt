@@ -88,7 +88,8 @@ impl Row {
         }
     }
 
-    // The row of these parts, each as it is: a row through a form that another language can hold. Every call answers every row.
+    // The row of these parts, each as it is: a head and its held bytes, put together again. Every call answers every row; but one of other
+    // parts than those of a row that the calls made is none of theirs, and demand 3 holds of no such row.
     pub fn from_parts(state: RowState, held: [u8; 246], len: usize) -> Row
         ensures { λ r. ⌜ r ≡ record { state = state; held = held; len = len } ⌝ }
     {

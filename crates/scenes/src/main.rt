@@ -4,6 +4,11 @@ mod cabinet_restart;
 mod dead_line;
 mod five_orders;
 mod lost_reply;
+mod made_anew;
+mod restart_in_opening;
+mod restart_in_order;
+mod slow_cabinet;
+mod slow_cabinet_by_number;
 
 use libc::STDERR_FILENO;
 use libc::STDIN_FILENO;
@@ -44,6 +49,21 @@ fn play(name: &[u8]) {
     }
     if is_name(name, b"dead_line") {
         return dead_line::play();
+    }
+    if is_name(name, b"restart_in_opening") {
+        return restart_in_opening::play();
+    }
+    if is_name(name, b"restart_in_order") {
+        return restart_in_order::play();
+    }
+    if is_name(name, b"made_anew") {
+        return made_anew::play();
+    }
+    if is_name(name, b"slow_cabinet") {
+        return slow_cabinet::play();
+    }
+    if is_name(name, b"slow_cabinet_by_number") {
+        return slow_cabinet_by_number::play();
     }
     no_scene(name)
 }

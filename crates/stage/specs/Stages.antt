@@ -39,6 +39,14 @@ fresh =
       tally = noTally;
     }
 
+-- the same stage with these ends; what is on the line stays there
+abbrev pub withEnds : Stage → Initiator → Responder → Stage
+withEnds s i r = record { initiator = i; responder = r; line = s .line; len = s .len; tally = s .tally }
+
+-- both ends made, the initiator with so many tries; with a number of tries that is refused, what stands beside the refusal
+abbrev pub freshWith : ℕ → Stage
+freshWith tries = withEnds fresh (initiatorRecords.madeOf sceneLink tries .end) (fresh .responder)
+
 -- the telegram on the line
 abbrev pub onLine : Stage → List ℕ
 onLine s = shownPart (record { start = 0; len = s .len }) (s .line)
@@ -144,17 +152,37 @@ responderHearStep s = afterResponder s (responder.hearOf (s .responder) (onLine 
 abbrev pub answerStep : Stage → List ℕ → Stepped Part
 answerStep s reply = afterResponder s (responder.answerOf (s .responder) reply (s .line))
 
--- the stage with these ends; what was on the line is gone
-abbrev pub withEnds : Stage → Initiator → Responder → Stage
-withEnds s i r = record { initiator = i; responder = r; line = s .line; len = 0; tally = s .tally }
-
 -- the line loses the telegram on it
 abbrev pub lostOf : Stage → Stage
-lostOf s = withEnds s (s .initiator) (s .responder)
+lostOf s = record { initiator = s .initiator; responder = s .responder; line = s .line; len = 0; tally = s .tally }
+
+-- "with either end restarting at any moment": also while a telegram is in flight, which stays in flight over a restart and over the
+-- making of a record anew.
+-- the initiator restarts: "Restart reports a pending order as silence at the last try would"
+unfoldable pub restartedBy : Stage → Turn Initiator Outcome → Stepped Outcome
+restartedBy s t =
+    record {
+      said = t .said;
+      stage =
+          record {
+            initiator = t .end;
+            responder = s .responder;
+            line = s .line;
+            len = s .len;
+            tally = endedBy (t .said) (s .tally);
+          };
+    }
+
+abbrev pub restartStep : Stage → Stepped Outcome
+restartStep s = restartedBy s (initiator.restartOf (s .initiator))
 
 -- the initiator has "one made anew"
 abbrev pub anewOf : Stage → Stage
 anewOf s = withEnds s (fresh .initiator) (s .responder)
+
+-- the responder has "one made anew"
+abbrev pub responderAnewOf : Stage → Stage
+responderAnewOf s = withEnds s (s .initiator) (fresh .responder)
 
 -- the responder "forgets all"
 abbrev pub restartedOf : Stage → Stage

@@ -5,7 +5,7 @@ mod answers;
 pub mod scenes;
 pub mod state;
 pub mod steps;
-mod telling;
+pub mod telling;
 
 pub use state::InitiatorStep;
 pub use state::ResponderStep;

@@ -1,6 +1,6 @@
 // The steps of a scene. Each prints its call, the answer and the telegram, and gives the stage that the step alone would give.
 ghost use mathlib.Core.Path.{_≡_};
-ghost use Rattle.stage.specs.Stages.{fresh, submitStep, silenceStep, initiatorHearStep, responderHearStep, answerStep, anewOf, restartedOf, lostOf};
+ghost use Rattle.stage.specs.Stages.{fresh, freshWith, submitStep, silenceStep, initiatorHearStep, responderHearStep, answerStep, restartStep, anewOf, responderAnewOf, restartedOf, lostOf};
 ghost use Rattle.stage.specs.Exchanges.{openingPassed, orderPassed};
 use crate::state::Stage;
 use crate::telling::print;
@@ -9,11 +9,7 @@ use crate::telling::print_initiator_answer;
 use crate::telling::print_number;
 use crate::telling::print_responder_answer;
 
-// A scene's heading, and its stage.
-pub fn open_scene(name: &[u8], about: &[u8]) -> Stage
-    ensures { λ r. ⌜ r ≡ fresh ⌝ }
-{
-    let stage = Stage::new();
+fn print_heading(name: &[u8], about: &[u8], stage: Stage) {
     let initiator = stage.initiator;
     print(b"scene=");
     print(name);
@@ -21,6 +17,23 @@ pub fn open_scene(name: &[u8], about: &[u8]) -> Stage
     print(b"\nabout=");
     print(about);
     print(b"\n");
+}
+
+// A scene's heading, and its stage.
+pub fn open_scene(name: &[u8], about: &[u8]) -> Stage
+    ensures { λ r. ⌜ r ≡ fresh ⌝ }
+{
+    let stage = Stage::new();
+    print_heading(name, about, stage);
+    stage
+}
+
+// The same with another number of tries.
+pub fn open_scene_with_tries(name: &[u8], about: &[u8], tries: u8) -> Stage
+    ensures { λ r. ⌜ r ≡ freshWith tries ⌝ }
+{
+    let stage = Stage::with_tries(tries);
+    print_heading(name, about, stage);
     stage
 }
 
@@ -73,6 +86,18 @@ pub fn head_end_hears(stage: Stage) -> Stage
     after
 }
 
+// The head end restarts with its record at hand, and says what became of a pending order.
+pub fn head_end_calls_restart(stage: Stage) -> Stage
+    ensures { λ r. ⌜ r ≡ restartStep stage .stage ⌝ }
+{
+    print(b"\nwho=head-end call=restart\n");
+    let step = stage.restart_initiator();
+    let answer = step.answer;
+    let after = step.stage;
+    print_initiator_answer(answer, stage, after);
+    after
+}
+
 // The head end goes on with a record made anew.
 pub fn head_end_restarts(stage: Stage) -> Stage
     ensures { λ r. ⌜ r ≡ anewOf stage ⌝ }
@@ -109,6 +134,14 @@ pub fn cabinet_restarts(stage: Stage) -> Stage
 {
     print(b"\nwho=cabinet call=restart\nanswer=all-forgotten\n");
     stage.restart_responder()
+}
+
+// The cabinet goes on with a record made anew.
+pub fn cabinet_made_anew(stage: Stage) -> Stage
+    ensures { λ r. ⌜ r ≡ responderAnewOf stage ⌝ }
+{
+    print(b"\nwho=cabinet call=new\nanswer=made-anew\n");
+    stage.make_responder_anew()
 }
 
 // The telegram on the line is lost.

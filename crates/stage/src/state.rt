@@ -1,5 +1,6 @@
 ghost use mathlib.Core.Path.{_≡_};
-ghost use Rattle.stage.specs.Stages.{fresh, noTally, withEnds, anewOf, restartedOf, lostOf};
+ghost use Rattle.initiator.specs.Records.{madeOf};
+ghost use Rattle.stage.specs.Stages.{sceneLink, fresh, freshWith, noTally, withEnds, anewOf, responderAnewOf, restartedOf, lostOf};
 use ground::Address;
 use initiator::Initiator;
 use initiator::InitiatorAnswer;
@@ -66,6 +67,17 @@ fn new_initiator() -> Initiator
     made.initiator
 }
 
+fn new_initiator_with(tries: u8) -> Initiator
+    ensures { λ r. ⌜ r ≡ madeOf sceneLink tries .end ⌝ }
+{
+    let link = Link {
+        own: Address(HEAD_END),
+        peer: Address(CABINET),
+    };
+    let made = Initiator::new(link, tries);
+    made.initiator
+}
+
 fn new_responder() -> Responder
     ensures { λ r. ⌜ r ≡ fresh .responder ⌝ }
 {
@@ -95,13 +107,22 @@ impl Stage {
         }
     }
 
+    // The same with another number of tries, from 1 to 8; with any other the initiator is one that writes and hears nothing.
+    pub fn with_tries(tries: u8) -> Stage
+        ensures { λ r. ⌜ r ≡ freshWith tries ⌝ }
+    {
+        let stage = Stage::new();
+        let responder = stage.responder;
+        stage.with_ends(new_initiator_with(tries), responder)
+    }
+
     pub fn tally(self) -> Tally
         ensures { λ r. ⌜ r ≡ self .tally ⌝ }
     {
         self.tally
     }
 
-    // The same stage with these ends; what was on the line is gone.
+    // The same stage with these ends; what is on the line stays there, as it does on the line of demand 3.
     fn with_ends(self, initiator: Initiator, responder: Responder) -> Stage
         ensures { λ r. ⌜ r ≡ withEnds self initiator responder ⌝ }
     {
@@ -111,7 +132,7 @@ impl Stage {
             initiator,
             responder,
             line,
-            len: 0,
+            len: self.len,
             tally,
         }
     }
@@ -122,6 +143,14 @@ impl Stage {
     {
         let responder = self.responder;
         self.with_ends(new_initiator(), responder)
+    }
+
+    // The responder loses its record and starts with one made anew.
+    pub fn make_responder_anew(self) -> Stage
+        ensures { λ r. ⌜ r ≡ responderAnewOf self ⌝ }
+    {
+        let initiator = self.initiator;
+        self.with_ends(initiator, new_responder())
     }
 
     pub fn restart_responder(self) -> Stage

@@ -1,7 +1,7 @@
 ghost use mathlib.Core.Path.{_≡_};
 ghost use Rattle.initiator.specs.Calls.{shownTurn as initiatorTurn};
 ghost use Rattle.responder.specs.Calls.{shownTurn as responderTurn};
-ghost use Rattle.stage.specs.Stages.{shownInitiatorStep, shownResponderStep, afterInitiator, afterResponder, submitStep, silenceStep, initiatorHearStep, responderHearStep, answerStep};
+ghost use Rattle.stage.specs.Stages.{shownInitiatorStep, shownResponderStep, afterInitiator, afterResponder, submitStep, silenceStep, initiatorHearStep, responderHearStep, answerStep, restartStep};
 use crate::answers::count_hand_up;
 use crate::answers::count_order;
 use crate::answers::count_outcome;
@@ -103,6 +103,31 @@ impl Stage {
         let answer = turn.answer;
         let counted = count_outcome(answer, tally);
         after_initiator(self, turn, line, counted)
+    }
+
+    // The initiator restarts and says what became of a pending order. What is on the line stays there.
+    pub fn restart_initiator(self) -> InitiatorStep
+        ensures { λ r. ⌜ shownInitiatorStep r ≡ restartStep self ⌝ }
+    {
+        let initiator = self.initiator;
+        let responder = self.responder;
+        let before = self.tally;
+        let line = self.line;
+        let turn = initiator.restart();
+        let answer = turn.answer;
+        let restarted = turn.initiator;
+        let tally = count_outcome(answer, before);
+        let next = Stage {
+            initiator: restarted,
+            responder,
+            line,
+            len: self.len,
+            tally,
+        };
+        InitiatorStep {
+            answer,
+            stage: next,
+        }
     }
 
     // The responder hears the telegram on the line.

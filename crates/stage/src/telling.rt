@@ -59,7 +59,7 @@ fn print_text(bytes: &[u8]) {
 }
 
 // An order or a reply behind its key, as bytes and as text.
-pub(crate) fn print_bytes(key: &[u8], bytes: &[u8]) {
+pub fn print_bytes(key: &[u8], bytes: &[u8]) {
     print(key);
     print_hex(bytes);
     print(b" text=");
@@ -87,7 +87,7 @@ fn print_listed(telegram: &[u8]) {
     print_second_line(listed.text(&text));
 }
 
-fn print_sent(telegram: &[u8]) {
+pub fn print_sent(telegram: &[u8]) {
     print(b"answer=sent telegram=");
     print_hex(telegram);
     print(b"\n");

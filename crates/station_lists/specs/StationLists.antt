@@ -51,7 +51,7 @@ pub record PassHolds (active : ℕ → Bool) (sa da : ℕ) : Type 0 where
   pub destination : active da ≡ true
   pub between : (a : ℕ) → between sa da a ≡ true → active a ≡ false
 
--- the lists that the calls make
+-- the lists that the calls make: from `new`, by those that change a list. One put together from parts need be none of them.
 pub data Reached (S : StationList) : S .State → Type 0 where
   by-new : (own : ℕ) → Reached S (S .new own)
   by-witness : (sa da : ℕ) {r : S .State} → Reached S r → Reached S (S .witness sa da r)

@@ -230,14 +230,7 @@ module _ (s : List ℕ) (f : Frame) where
       ≡ if (eqb (byteAt s (f .at + f .len + 1)) ED)
       (eqb (byteAt s (f .at + f .len)) (checksumOf (part s (f .at) (f .at + f .len)))) false
   unfolding sealedOf
-  sealed-found fits =
-      let end : f .total - 2 ≡ f .at + f .len = omega (arith, fits .counted) in
-      rw (
-        le-ltb (length s) (f .total) (fits .within),
-        le-ltb (f .total) 2 (omega (arith, fits .counted)),
-        end,
-        le-ltb (f .at + f .len) (f .at) (omega arith),
-      )
+  sealed-found fits = rw (le-ltb (length s) (f .at + f .len + 2) (omega (arith, fits .counted, fits .within)))
 
 -- A data telegram that is read has a frame, of its length.
 pub record DataFramed (s : List ℕ) (n : ℕ) : Type 0 where

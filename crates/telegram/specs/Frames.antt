@@ -1,7 +1,7 @@
 -- The frame of a data telegram: document 01, "Reading a telegram", up to step 3, with the place, the lengths and the code byte that
 -- the later steps judge. Read from `framingOf` back, then `sealedOf`. (Reading.antt has all steps; that the reader's answer is made
 -- from the frame is `framed-read` in proofs/FrameLaws.antt.)
-use Prim.Native.Nat.{ℕ, _+_, _-_}
+use Prim.Native.Nat.{ℕ, _+_}
 use mathlib.Core.Bool.{Bool, true, false, not}
 use mathlib.Core.List.{List}
 use lib.Dec.{eqb, ltb}
@@ -53,12 +53,10 @@ unfoldable pub framingOf : List ℕ → Framing
 framingOf s =
     if (eqb (length s) 0) frameIncomplete (if (startsData (byteAt s 0)) (framingData s) (frameRefused 1))
 
--- whether checksum and end delimiter, the last two bytes of a frame, hold; a frame that these bytes cannot have is not sealed
+-- whether checksum and end delimiter, the two bytes behind a frame's `len`, hold; a frame that these bytes cannot have is not sealed
 unfoldable pub sealedOf : Frame → List ℕ → Bool
 sealedOf f s =
-    if (ltb (length s) (f .total)) false
-    (if (ltb (f .total) 2) false
-    (if (ltb (f .total - 2) (f .at)) false
-    (if (eqb (byteAt s (f .total - 2 + 1)) ED)
-    (eqb (byteAt s (f .total - 2)) (checksumOf (part s (f .at) (f .total - 2))))
-    false)))
+    if (ltb (length s) (f .at + f .len + 2)) false
+    (if (eqb (byteAt s (f .at + f .len + 1)) ED)
+    (eqb (byteAt s (f .at + f .len)) (checksumOf (part s (f .at) (f .at + f .len))))
+    false)

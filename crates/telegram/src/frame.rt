@@ -94,18 +94,19 @@ impl Frame {
         ensures { λ r. ⌜ r ≡ sealedOf self (now (bytes .entry)) ⌝ }
     {
         let at = self.at;
-        let total = self.total;
+        let len = self.len;
         let n = bytes.len();
-        if n < total {
+        if n < at {
             return false;
         }
-        if total < 2 {
+        let room = n - at;
+        if room < 2 {
             return false;
         }
-        let end = total - 2;
-        if end < at {
+        if room - 2 < len {
             return false;
         }
+        let end = at + len;
         let last = bytes[end + 1];
         if last != consts::ED {
             return false;

@@ -1,5 +1,6 @@
 -- What the rules mean for a set of addresses: the active ones. Read `between` and `inGap`, by which `station_lists` says demand 2, and `Sound`,
--- which every list keeps that the calls make. The theorems that tie the two are in proofs/Sets.antt, Neighbours.antt, ByIndex.antt and Sound.antt.
+-- which every list keeps that `new` and the calls that change a list make. The theorems that tie the two are in proofs/Sets.antt,
+-- Neighbours.antt, ByIndex.antt and Sound.antt.
 use mathlib.Core.Bool.{Bool, true, false, _&&_, _||_}
 use mathlib.Core.List.{List}
 use mathlib.Core.Path.{_≡_}
@@ -39,7 +40,8 @@ NoneBetween first second flags = (a : ℕ) → between first second a ≡ true �
 abbrev pub inGap : ℕ → ℕ → ℕ → Bool
 inGap sa da a = if (wrap sa da) (within sa 128 a || within 0 da a) (within sa da a)
 
--- what holds of every list that the calls make: 128 flags, those above 125 never set, own at most 125, and next and previous by the rule
+-- what holds of every list that `new` and the calls that change a list make: 128 flags, those above 125 never set, own at most 125, and
+-- next and previous by the rule; a list put together by `from_parts` has what it was given
 pub record Sound (r : TokenRing) : Type 0 where
   pub size : length (r .«active_stations») ≡ 128
   pub high : (a : ℕ) → 125 < a → active (r .«active_stations») a ≡ false

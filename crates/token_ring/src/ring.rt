@@ -122,7 +122,8 @@ fn hear(flags: &mut [bool; 128], state: LasState, sa: usize, da: usize) -> Heard
 }
 
 impl TokenRing {
-    // Beside a refusal stands the list of address 0, so that every list that there is has an own address up to 125.
+    // Beside a refusal stands the list of address 0, so that every list that comes from here and from the calls that change a list has
+    // an own address up to 125.
     pub fn new(own: Address) -> Changed
         ensures { λ r. ⌜ Gives (stationAnswer (own .0)) (made (own .0)) r ⌝ }
     {
@@ -140,7 +141,8 @@ impl TokenRing {
     }
 
     // The list of these parts, each as it is. With `active_stations` and the questions below it takes a list through a form that another
-    // language can hold; every call answers every list.
+    // language can hold; every call answers every list. With other parts than those of a list that the calls made it is none of theirs,
+    // and what is said of those (`Sound`, demand 2) does not hold of it.
     pub fn from_parts(
         active_stations: [bool; 128],
         las_state: LasState,

@@ -1,5 +1,6 @@
 //! Demand 3, clause by clause, from document 01's text alone: the judge sees what the callers see and knows nothing of bits,
-//! states or telegrams.
+//! states or telegrams. A handing up counts for the latest order submitted, whatever was reported of it: the telegram may be heard after
+//! a restart, and after the report. An older order that is carried out late is not let off by that: the bytes are then another's.
 
 /// What became of an order, as the initiator reported it.
 #[derive(Clone, Copy, Debug, PartialEq)]
@@ -16,7 +17,7 @@ struct Order {
     bytes: Vec<u8>,
     outcome: Outcome,
     hand_ups: u32,
-    /// The first answer accepted after the hand-up and before the next opening.
+    /// The reply that the application gave for this hand-up, where it was taken.
     reply: Option<Vec<u8>>,
 }
 
@@ -27,6 +28,10 @@ pub struct Tally {
     pub unknown: u64,
     pub abandoned: u64,
     pub hand_ups: u64,
+    /// Orders carried out after they were reported unknown or left pending by an end made anew.
+    pub late_hand_ups: u64,
+    /// Answers that named an order which was no longer waited for, and were refused.
+    pub late_answers: u64,
 }
 
 #[derive(Default)]
@@ -37,7 +42,6 @@ pub struct Judge {
     pending: Option<usize>,
     /// The telegrams written for the pending order in its present phase.
     written: u8,
-    last_handed_up: Option<usize>,
     awaiting: Option<usize>,
     pub tally: Tally,
 }
@@ -59,6 +63,10 @@ impl Judge {
 
     pub fn is_pending(&self) -> bool {
         self.pending.is_some()
+    }
+
+    pub fn is_carried_out(&self) -> bool {
+        self.orders.last().map_or(false, |order| order.hand_ups > 0)
     }
 
     pub fn submitted(&mut self, bytes: &[u8]) -> Verdict {
@@ -83,24 +91,27 @@ impl Judge {
         self.written = 1;
     }
 
-    pub fn handed_up(&mut self, bytes: &[u8]) -> Verdict {
+    /// Gives the order's number, by which the application answers.
+    pub fn handed_up(&mut self, bytes: &[u8]) -> Result<usize, String> {
         self.tally.hand_ups += 1;
-        let Some(number) = self.pending else {
-            return Err("an order was handed up while none was pending".to_string());
+        let Some(order) = self.orders.last_mut() else {
+            return Err("an order was handed up before any was submitted".to_string());
         };
-        held(self.last_handed_up.map_or(true, |last| last <= number), "orders are carried out in the order submitted")?;
-        self.last_handed_up = Some(number);
-        self.awaiting = Some(number);
-        let order = self.order(number);
         order.hand_ups += 1;
+        held(order.bytes == bytes, "orders are carried out in the order submitted, byte for byte")?;
+        held(order.outcome != Outcome::NotSent, "an order reported not sent was never carried out")?;
         held(order.hand_ups == 1, "an order is carried out at most once")?;
-        held(order.bytes == bytes, "what is handed up is what was submitted, byte for byte")
+        self.tally.late_hand_ups += u64::from(order.outcome != Outcome::Pending);
+        let number = self.gone + self.orders.len() - 1;
+        self.awaiting = Some(number);
+        Ok(number)
     }
 
-    pub fn answered(&mut self, reply: &[u8]) -> Verdict {
-        let Some(number) = self.awaiting.take() else {
-            return Err("an answer was taken that was not owed".to_string());
-        };
+    /// The answer to this order was taken.
+    pub fn answered(&mut self, number: usize, reply: &[u8]) -> Verdict {
+        let awaited = self.awaiting.take();
+        held(awaited.is_some(), "an answer is taken where one is owed")?;
+        held(awaited == Some(number), "an answer is taken for the order that it names, and for no other")?;
         if number >= self.gone {
             let order = self.order(number);
             if order.reply.is_none() {
@@ -110,8 +121,9 @@ impl Judge {
         Ok(())
     }
 
-    pub fn answer_refused(&self) -> Verdict {
-        held(self.awaiting.is_none(), "an owed answer is taken")
+    pub fn answer_refused(&mut self, number: usize) -> Verdict {
+        self.tally.late_answers += 1;
+        held(self.awaiting != Some(number), "an owed answer is taken")
     }
 
     /// An opening was answered, or the responder restarted: what it owed is dropped.

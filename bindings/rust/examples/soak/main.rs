@@ -1,4 +1,6 @@
-//! Two ends, a lossy line, restarts at random moments: demand 3's clauses, judged while it runs by a model of its own.
+//! Two ends, a lossy line, restarts at random moments: demand 3's clauses, judged while it runs by a model of its own. Over a restart,
+//! and over the making of a record anew, the telegram in flight stays in flight, as on the line of the theorem. The ends are the guarded
+//! ones: the application of the cabinet lets orders lie and answers them late, and lost telegrams come out of a queue.
 //!
 //!     cargo run --release --example soak -- [--seed N] [--seconds N] [--calls N] [--oracle PATH] [--plant FAULT]
 //!
@@ -46,7 +48,7 @@ fn words() -> Option<Words> {
 fn main() {
     let Some(words) = words() else {
         eprintln!("use: soak [--seed N] [--seconds N] [--calls N] [--oracle PATH] [--plant FAULT]");
-        eprintln!("FAULT is one of tries, reply, twice, late, order, notsent, mute");
+        eprintln!("FAULT is one of tries, reply, twice, late, order, notsent, early, mute, row, record, number");
         exit(2);
     };
     println!("seed {}", words.seed);
@@ -56,7 +58,8 @@ fn main() {
     while broken.is_none() && scene.calls < words.calls && start.elapsed() < Duration::from_secs(words.seconds) {
         broken = (0..1000).find_map(|_| scene.turn().err());
     }
-    println!("{} calls in {:.1} s", scene.calls, start.elapsed().as_secs_f64());
+    let seconds = start.elapsed().as_secs_f64();
+    println!("{} calls in {seconds:.1} s, {:.0} a second", scene.calls, scene.calls as f64 / seconds);
     println!("{}", scene.tally());
     if broken.is_none() {
         if let Some(path) = &words.oracle {

@@ -15,8 +15,16 @@ pub enum Fault {
     Order,
     /// Unknown is reported as not sent.
     NotSent,
+    /// The initiator's restart reports an order that is in flight, and not yet carried out, as not sent.
+    Early,
     /// The responder never answers an opening.
     Mute,
+    /// The responder's restart puts back its record of another time: as it was when it last heard an opening.
+    Row,
+    /// Making the initiator anew puts back its record of another time: as it was after an order that was confirmed.
+    Record,
+    /// An answer is given with the number of the order that was handed up last, whichever order it is for.
+    Number,
 }
 
 impl Fault {
@@ -28,7 +36,11 @@ impl Fault {
             "late" => Fault::Late,
             "order" => Fault::Order,
             "notsent" => Fault::NotSent,
+            "early" => Fault::Early,
             "mute" => Fault::Mute,
+            "row" => Fault::Row,
+            "record" => Fault::Record,
+            "number" => Fault::Number,
             _ => return None,
         })
     }

@@ -2,8 +2,10 @@
 use crate::judge::Judge;
 use crate::plant::Fault;
 use crate::random::Random;
-use koyandefa::{Initiator, InitiatorAnswer, Refusal, Responder, ResponderAnswer, LONGEST_ORDER, ROOM};
-use std::mem::transmute_copy;
+use koyandefa::{
+    GuardedInitiator, GuardedResponder, HandUp, Heard, InitiatorAnswer, NotTaken, Received, Refusal, LONGEST_ORDER,
+    ROOM,
+};
 
 const KEPT_TELEGRAMS: usize = 100_000;
 /// An opening has no PDU and an order has at least one byte, so its length tells it.
@@ -15,10 +17,22 @@ pub struct Scene {
     own: u8,
     peer: u8,
     tries: u8,
-    initiator: Initiator,
-    responder: Responder,
-    /// What the last call of the two ends wrote, and whether the initiator wrote it. It is heard in the very next call, or never.
+    initiator: GuardedInitiator,
+    responder: GuardedResponder,
+    /// Stepped at each event: the stamps of both ends.
+    clock: usize,
+    /// What the application of the cabinet has not answered yet, each with the judge's number of its order.
+    unanswered: Vec<(HandUp, usize)>,
+    /// When the initiator and the responder last wrote.
+    written: [usize; 2],
+    /// A telegram that was lost, whether the initiator wrote it, and when: once its hearer has written itself, it must be nothing.
+    queued: Option<(Vec<u8>, bool, usize)>,
+    stale_heard: u64,
+    /// What the last call of the two ends wrote, restarts aside, and whether the initiator wrote it. It is heard in the very next call
+    /// that is no restart, or never.
     line: Option<(Vec<u8>, bool)>,
+    /// An end has restarted, or was made anew, since that was written.
+    crossed: bool,
     late: Vec<u8>,
     /// Neither end has restarted since the opening began under which the link is open.
     clean: bool,
@@ -27,16 +41,25 @@ pub struct Scene {
     pub calls: u64,
     fair: u64,
     restarts: u64,
+    makings: u64,
+    /// Telegrams heard after a restart or a making anew.
+    heard_over: u64,
     refusals: u64,
+    /// Records of another time, kept and put back by the faults `row` and `record` alone.
+    old_row: Option<GuardedResponder>,
+    old_record: Option<GuardedInitiator>,
 }
 
 type Verdict = Result<(), String>;
 
-/// Both ends as they lie in memory, to be compared only: the wrapper lets no bytes of a link's record out.
-fn memory(initiator: &Initiator, responder: &Responder) -> ([u8; 252], [u8; 250]) {
-    // Each is one array of bytes and nothing else, so there is no padding.
-    unsafe { (transmute_copy(initiator), transmute_copy(responder)) }
+/// A second record of an end, which the wrapper does not allow: to be compared, or put back by a fault. An end owns nothing but its
+/// bytes, so that nothing is freed twice.
+fn second<End>(end: &End) -> End {
+    unsafe { std::ptr::read(end) }
 }
+
+/// How many orders the application lets lie.
+const LYING: usize = 8;
 
 impl Scene {
     pub fn new(seed: u64, fault: Fault) -> Scene {
@@ -46,14 +69,20 @@ impl Scene {
         let tries = 1 + random.below(8) as u8;
         println!("own {own}, peer {peer}, tries {tries}");
         Scene {
-            initiator: Initiator::new(own, peer, tries).expect("two stations"),
-            responder: Responder::new(peer, own).expect("two stations"),
+            initiator: GuardedInitiator::new(own, peer, tries, 0).expect("two stations"),
+            responder: GuardedResponder::new(peer, own, 0).expect("two stations"),
+            clock: 0,
+            unanswered: Vec::new(),
+            written: [0; 2],
+            queued: None,
+            stale_heard: 0,
             random,
             fault,
             own,
             peer,
             tries,
             line: None,
+            crossed: false,
             late: Vec::new(),
             clean: false,
             judge: Judge::default(),
@@ -61,15 +90,31 @@ impl Scene {
             calls: 0,
             fair: 0,
             restarts: 0,
+            makings: 0,
+            heard_over: 0,
             refusals: 0,
+            old_row: None,
+            old_record: None,
         }
     }
 
     pub fn tally(&self) -> String {
         let t = &self.judge.tally;
         format!(
-            "orders: {} confirmed, {} not sent, {} unknown, {} left pending by an end made anew; {} handed up; {} fair orders; {} restarts; {} refused calls",
-            t.confirmed, t.not_sent, t.unknown, t.abandoned, t.hand_ups, self.fair, self.restarts, self.refusals
+            "orders: {} confirmed, {} not sent, {} unknown, {} left pending by an end made anew; {} handed up, {} of them after the report; {} fair orders; {} restarts, {} makings anew, {} telegrams heard over one; {} late answers refused, {} stale telegrams ignored; {} refused calls",
+            t.confirmed,
+            t.not_sent,
+            t.unknown,
+            t.abandoned,
+            t.hand_ups,
+            t.late_hand_ups,
+            self.fair,
+            self.restarts,
+            self.makings,
+            self.heard_over,
+            t.late_answers,
+            self.stale_heard,
+            self.refusals
         )
     }
 
@@ -78,6 +123,14 @@ impl Scene {
             self.telegrams.push(telegram.to_vec());
         }
         self.line = Some((telegram.to_vec(), by_initiator));
+        self.written[usize::from(!by_initiator)] = self.clock;
+        self.crossed = false;
+    }
+
+    /// The next stamp.
+    fn tick(&mut self) -> usize {
+        self.clock += 1;
+        self.clock
     }
 
     /// A buffer with other bytes each time, so that one that is not written to is noticed.
@@ -96,6 +149,7 @@ impl Scene {
             52 => self.restart_initiator(),
             53 => self.restart_responder(),
             54 if self.random.one_in(8) => self.make_anew(),
+            54 => self.stale(),
             55..=58 => self.refused_calls(),
             _ => self.noise(),
         }
@@ -109,9 +163,10 @@ impl Scene {
 
     fn submit_this(&mut self, order: &[u8]) -> Verdict {
         self.calls += 1;
-        self.line = None;
+        self.lose();
         let mut buf = self.room();
-        match self.initiator.submit(order, &mut buf) {
+        let now = self.tick();
+        match self.initiator.submit(now, order, &mut buf) {
             Ok(InitiatorAnswer::Sent(len)) => {
                 self.wrote(&buf[..len], true);
                 self.clean |= len == OPENING;
@@ -124,9 +179,10 @@ impl Scene {
 
     fn silence(&mut self) -> Verdict {
         self.calls += 1;
-        self.line = None;
+        self.lose();
         let mut buf = self.room();
-        match self.initiator.silence(&mut buf) {
+        let now = self.tick();
+        match self.initiator.silence(now, &mut buf) {
             Ok(InitiatorAnswer::Sent(len)) => {
                 self.wrote(&buf[..len], true);
                 self.judge.repeated();
@@ -142,6 +198,9 @@ impl Scene {
         let more = u8::from(self.fault == Fault::Tries);
         match answer {
             InitiatorAnswer::Confirmed { reply, tries } => {
+                if self.fault == Fault::Record && self.random.one_in(2) {
+                    self.old_record = Some(second(&self.initiator));
+                }
                 let mut reply = heard[reply].to_vec();
                 if self.fault == Fault::Reply {
                     reply.push(0);
@@ -164,8 +223,10 @@ impl Scene {
             return if old.is_empty() { Ok(()) } else { self.responder_hears(&old) };
         }
         if self.random.one_in(6) {
+            self.queued = Some((telegram, by_initiator, self.clock));
             return Ok(());
         }
+        self.heard_over += u64::from(self.crossed);
         if by_initiator {
             self.responder_hears(&telegram)
         } else {
@@ -178,36 +239,49 @@ impl Scene {
         self.line = None;
         let mut buf = self.room();
         let opening = telegram.len() == OPENING;
-        match self.responder.hear(telegram, &mut buf) {
-            Ok(ResponderAnswer::Sent(len)) => {
+        let now = self.tick();
+        match self.responder.hear(Received { at: now, bytes: telegram }, now, &mut buf) {
+            Ok(Heard::Sent(len)) => {
                 if opening {
                     self.judge.dropped();
+                }
+                if opening && self.fault == Fault::Row {
+                    self.old_row = Some(second(&self.responder));
                 }
                 if self.fault != Fault::Mute {
                     self.wrote(&buf[..len], false);
                 }
                 Ok(())
             }
-            Ok(ResponderAnswer::HandedUp(order)) => {
-                let mut order = telegram[order].to_vec();
-                if self.fault == Fault::Order {
-                    order[0] ^= 1;
-                }
-                if self.fault == Fault::Twice {
-                    self.judge.handed_up(&order)?;
-                }
-                self.judge.handed_up(&order)
-            }
-            Ok(ResponderAnswer::Nothing) => Ok(()),
+            Ok(Heard::HandedUp(hand_up)) => self.hands_up(hand_up),
+            Ok(Heard::Nothing) => Ok(()),
             Err(refusal) => Err(format!("hearing with room was {refusal}")),
         }
+    }
+
+    /// The application takes the order, and may let it lie.
+    fn hands_up(&mut self, hand_up: HandUp) -> Verdict {
+        let mut order = hand_up.order().to_vec();
+        if self.fault == Fault::Order {
+            order[0] ^= 1;
+        }
+        if self.fault == Fault::Twice {
+            self.judge.handed_up(&order)?;
+        }
+        let number = self.judge.handed_up(&order)?;
+        if self.unanswered.len() == LYING {
+            self.unanswered.remove(0);
+        }
+        self.unanswered.push((hand_up, number));
+        Ok(())
     }
 
     fn initiator_hears(&mut self, telegram: &[u8]) -> Verdict {
         self.calls += 1;
         self.line = None;
         let mut buf = self.room();
-        match self.initiator.hear(telegram, &mut buf) {
+        let now = self.tick();
+        match self.initiator.hear(Received { at: now, bytes: telegram }, now, &mut buf) {
             Ok(InitiatorAnswer::Sent(len)) => {
                 self.wrote(&buf[..len], true);
                 self.judge.order_sent();
@@ -218,23 +292,68 @@ impl Scene {
         }
     }
 
+    /// The application finishes an order: mostly the last one, sometimes one that it let lie.
     fn answer(&mut self) -> Verdict {
+        let lying = self.unanswered.len();
+        if lying == 0 {
+            return Ok(());
+        }
+        let which = if self.random.one_in(4) { self.random.below(lying as u64) as usize } else { lying - 1 };
+        let (hand_up, number) = self.unanswered.remove(which);
         let len = self.random.length(0, LONGEST_ORDER as u64);
         let reply = self.random.bytes(len);
-        self.answer_this(&reply)
+        self.answer_this(hand_up, number, &reply)
     }
 
-    fn answer_this(&mut self, reply: &[u8]) -> Verdict {
+    /// An answer that is not taken leaves the line as it is.
+    fn answer_this(&mut self, mut hand_up: HandUp, number: usize, reply: &[u8]) -> Verdict {
         self.calls += 1;
-        self.line = None;
         let mut buf = self.room();
-        match self.responder.answer(reply, &mut buf) {
-            Ok(ResponderAnswer::Sent(len)) => {
-                self.wrote(&buf[..len], false);
-                self.judge.answered(reply)
+        let now = self.tick();
+        if self.fault == Fault::Number {
+            if let Some((last, _)) = self.unanswered.last() {
+                hand_up = second(last);
             }
-            Err(Refusal::NoReplyOwed) => self.judge.answer_refused(),
+        }
+        match self.responder.answer(hand_up, now, reply, &mut buf) {
+            Ok(len) => {
+                self.lose();
+                self.wrote(&buf[..len], false);
+                self.judge.answered(number, reply)
+            }
+            Err(NotTaken::NoReplyOwed) => self.judge.answer_refused(number),
             other => Err(format!("answering gave {other:?}")),
+        }
+    }
+
+    /// What is on the line is lost; it may still come out of a queue, with its stamp.
+    fn lose(&mut self) {
+        if let Some((telegram, by_initiator)) = self.line.take() {
+            self.queued = Some((telegram, by_initiator, self.clock));
+        }
+    }
+
+    /// A telegram comes out of a queue after its hearer's own next telegram: nothing is to happen.
+    fn stale(&mut self) -> Verdict {
+        let Some((telegram, by_initiator, at)) = self.queued.take() else { return Ok(()) };
+        if self.written[usize::from(by_initiator)] < at {
+            return Ok(());
+        }
+        self.calls += 1;
+        self.stale_heard += 1;
+        let before = (second(&self.initiator), second(&self.responder));
+        let mut buf = self.room();
+        let now = self.tick();
+        let heard = Received { at, bytes: &telegram };
+        let quiet = if by_initiator {
+            self.responder.hear(heard, now, &mut buf) == Ok(Heard::Nothing)
+        } else {
+            self.initiator.hear(heard, now, &mut buf) == Ok(InitiatorAnswer::Nothing)
+        };
+        if quiet && self.initiator == before.0 && self.responder == before.1 {
+            Ok(())
+        } else {
+            Err("a telegram older than the hearer's own last one was heard".to_string())
         }
     }
 
@@ -242,34 +361,54 @@ impl Scene {
         self.calls += 1;
         self.restarts += 1;
         self.clean = false;
-        self.line = None;
+        self.crossed = true;
         let answer = self.initiator.restart();
-        self.report(answer, &[])
+        let in_flight = matches!(self.line, Some((_, true))) && !self.judge.is_carried_out();
+        match answer {
+            InitiatorAnswer::Unknown { tries } if self.fault == Fault::Early && in_flight => self.judge.not_sent(tries),
+            answer => self.report(answer, &[]),
+        }
     }
 
     fn restart_responder(&mut self) -> Verdict {
         self.calls += 1;
         self.restarts += 1;
         self.clean = false;
-        self.line = None;
-        self.responder.restart();
+        self.crossed = true;
+        match &self.old_row {
+            Some(old) => self.responder = second(old),
+            None => self.responder.restart(),
+        }
         self.judge.dropped();
         Ok(())
     }
 
-    /// An end's record made anew: for the initiator a restart whose pending order stays pending.
+    /// A restart whose pending order stays pending; the new record may have another number of tries.
+    fn make_initiator_anew(&mut self) -> Verdict {
+        let tries = 1 + self.random.below(8) as u8;
+        match &self.old_record {
+            Some(old) => self.initiator = second(old),
+            None => {
+                let now = self.clock;
+                self.initiator = GuardedInitiator::new(self.own, self.peer, tries, now).map_err(|r| r.to_string())?;
+                self.tries = tries;
+            }
+        }
+        self.judge.made_anew();
+        Ok(())
+    }
+
+    /// An end's record made anew.
     fn make_anew(&mut self) -> Verdict {
         self.calls += 1;
-        self.restarts += 1;
+        self.makings += 1;
         self.clean = false;
-        self.line = None;
+        self.crossed = true;
         if self.random.one_in(2) {
-            self.initiator = Initiator::new(self.own, self.peer, self.tries).map_err(|r| r.to_string())?;
-            self.judge.made_anew();
-        } else {
-            self.responder = Responder::new(self.peer, self.own).map_err(|r| r.to_string())?;
-            self.judge.dropped();
+            return self.make_initiator_anew();
         }
+        self.responder = GuardedResponder::new(self.peer, self.own, self.clock).map_err(|r| r.to_string())?;
+        self.judge.dropped();
         Ok(())
     }
 
@@ -277,23 +416,37 @@ impl Scene {
     fn refused_calls(&mut self) -> Verdict {
         self.calls += 1;
         self.refusals += 1;
-        let before = memory(&self.initiator, &self.responder);
+        let before = (second(&self.initiator), second(&self.responder));
         let mut short = vec![0x5A; self.random.below(ROOM as u64) as usize];
         let mut whole = [0x5A; ROOM];
         let telegram = self.line.take().map_or(Vec::new(), |(telegram, _)| telegram);
-        let refusal = match self.random.below(6) {
-            0 => self.initiator.submit(&[1], &mut short).map(|_| ()),
-            1 => self.initiator.silence(&mut short).map(|_| ()),
-            2 => self.initiator.hear(&telegram, &mut short).map(|_| ()),
-            3 => self.responder.hear(&telegram, &mut short).map(|_| ()),
-            4 => self.responder.answer(&[1], &mut short).map(|_| ()),
-            _ => self.initiator.submit(&[], &mut whole).map(|_| ()),
+        let now = self.tick();
+        let heard = Received { at: now, bytes: &telegram };
+        let refused = match self.random.below(6) {
+            0 => self.initiator.submit(now, &[1], &mut short).is_err(),
+            1 => self.initiator.silence(now, &mut short).is_err(),
+            2 => self.initiator.hear(heard, now, &mut short).is_err(),
+            3 => self.responder.hear(heard, now, &mut short).is_err(),
+            4 => self.answers_short(now, &mut short),
+            _ => self.initiator.submit(now, &[], &mut whole).is_err(),
         };
-        let stayed = memory(&self.initiator, &self.responder) == before;
-        if refusal.is_err() && stayed && short.iter().chain(&whole).all(|&b| b == 0x5A) {
+        let stayed = self.initiator == before.0 && self.responder == before.1;
+        if refused && stayed && short.iter().chain(&whole).all(|&b| b == 0x5A) {
             Ok(())
         } else {
-            Err(format!("a call that is to be refused gave {refusal:?}, or changed what it was lent"))
+            Err("a call that is to be refused was not, or changed what it was lent".to_string())
+        }
+    }
+
+    /// An answer without room is refused, and the order comes back if it is still waited for.
+    fn answers_short(&mut self, now: usize, short: &mut [u8]) -> bool {
+        let Some((hand_up, number)) = self.unanswered.pop() else { return true };
+        match self.responder.answer(hand_up, now, &[1], short) {
+            Err(NotTaken::Again(Refusal::NoRoom, hand_up)) => {
+                self.unanswered.push((hand_up, number));
+                true
+            }
+            other => other == Err(NotTaken::NoReplyOwed),
         }
     }
 
@@ -315,10 +468,12 @@ impl Scene {
         }
         let mut buf = self.room();
         let before = buf.clone();
+        let now = self.tick();
+        let heard = Received { at: now, bytes: &noise };
         let quiet = if self.random.one_in(2) {
-            self.initiator.hear(&noise, &mut buf) == Ok(InitiatorAnswer::Nothing)
+            self.initiator.hear(heard, now, &mut buf) == Ok(InitiatorAnswer::Nothing)
         } else {
-            self.responder.hear(&noise, &mut buf) == Ok(ResponderAnswer::Nothing)
+            self.responder.hear(heard, now, &mut buf) == Ok(Heard::Nothing)
         };
         if quiet && buf == before {
             Ok(())
@@ -345,7 +500,11 @@ impl Scene {
             };
             self.responder_hears(&telegram)?;
             if self.line.is_none() {
-                self.answer()?;
+                let Some((hand_up, number)) = self.unanswered.pop() else {
+                    return Err("a try that was heard neither wrote nor handed up".to_string());
+                };
+                let reply = self.random.bytes(3);
+                self.answer_this(hand_up, number, &reply)?;
             }
             let Some((telegram, false)) = self.line.take() else {
                 return Err("the responder did not answer a try that it heard".to_string());

@@ -54,6 +54,8 @@ pub plain-in-spec : {M : Type 1} → statement M
 plain-in-spec =
     tie.close
     (tie.spec
+    (λ c. search needs)
+    (λ c. search needs)
     not-filling
     (λ c. search needs)
     (λ c. search needs)

@@ -1,8 +1,8 @@
 -- `item_of` meets its contract: at the end it is done; else each arm says what the reader answered.
 use mathlib.Core.Path.{sym, ap, _∙_}
 use Prim.Native.Nat.{ℕ}
-use Rattle.listing.specs.declared.line.End.the-variants.{Refused}
-use Rattle.listing.specs.declared.line.Item.the-variants.{Telegram, Last}
+use Rattle.listing_lines.specs.declared.line.End.the-variants.{Refused}
+use Rattle.listing_lines.specs.declared.line.Item.the-variants.{Telegram, Last}
 use Rattle.telegram.proofs.ReadingLaws.{told-whole, told-incomplete, told-refused}
 use Rattle.listing.proofs.ItemLaws.{item-done, item-read}
 use borrow.Author.Needs.{needs}

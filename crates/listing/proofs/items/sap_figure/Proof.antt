@@ -1,6 +1,6 @@
 -- `sap_figure` meets its contract: each arm is the figure of its case.
 use mathlib.Core.Path.{sym, ap, _∙_}
-use Rattle.listing.specs.declared.line.Figure.the-variants.{Number}
+use Rattle.listing_lines.specs.declared.line.Figure.the-variants.{Number}
 use Rattle.listing.specs.Telegrams.{sapFigure}
 use borrow.Author.Needs.{needs}
 use Rattle.listing.proofs.items.sap_figure.Statement.{statement}

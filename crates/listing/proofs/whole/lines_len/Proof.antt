@@ -1,6 +1,6 @@
 -- `lines_len` meets its contract: after each turn the lines up to the place are counted, and those from there on are left.
 use mathlib.Core.Path.{sym, ap, _∙_}
-use Rattle.listing.specs.Leaves.{itemText}
+use Rattle.listing_lines.specs.Lines.{itemText}
 use Prim.Native.Nat.{_+_, _-_, _≤_}
 use native.Mathlib.Omega.{arith}
 use denote.Ref.{now}

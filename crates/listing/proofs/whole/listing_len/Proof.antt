@@ -2,7 +2,7 @@
 use native.Mathlib.Omega.{arith}
 use denote.Ref.{now}
 use lib.ListN.{length}
-use Rattle.listing.proofs.LineLaws.{four-digits}
+use Rattle.listing_lines.proofs.LineLaws.{four-digits}
 use Rattle.listing.proofs.ListingLaws.{lines-small, listing-length}
 use borrow.Author.Needs.{needs}
 use Rattle.listing.proofs.whole.listing_len.Statement.{statement}

@@ -1,0 +1,60 @@
+// The bits of an identifier block's body: one for each module, in the order of the configuration telegram. profirust
+// gives them as a `BitSlice`. Promises: `bitOf` and `firstOf` in specs/Modules.antt.
+ghost use mathlib.Core.Path.{_≡_};
+ghost use Prim.Native.Nat.{_%_};
+ghost use Rattle.diagnostics_blocks.specs.Modules.{bitOf, firstOf, modulesOf};
+ghost use Rattle.diagnostics_blocks.specs.Shown.{shownModule};
+
+// So many modules have a bit in the longest body, of 62 bytes.
+pub const MODULES: usize = 496;
+
+// The first module with its bit set, from where it was looked for.
+pub enum Module {
+    At(usize),
+    Nothing,
+}
+
+// Whether a module's bit is set; a module past the body's end has none.
+pub fn is_set(body: &[u8], index: usize) -> bool
+    ensures { λ r. ⌜ r ≡ bitOf (now (body .entry)) index ⌝ }
+{
+    let at = index / 8;
+    if body.len() <= at {
+        return false;
+    }
+    let bits = body[at];
+    (bits >> place_of(index)) % 2 == 1
+}
+
+// A module's place in its byte: the lowest bit comes first.
+fn place_of(index: usize) -> u8
+    ensures { λ r. ⌜ r ≡ index % 8 ⌝ }
+{
+    (index % 8) as u8
+}
+
+// The first module at or above a number with its bit set. One after the other: ask from 0, then from one above the answer.
+pub fn first_set(body: &[u8], from: usize) -> Module
+    ensures { λ r. ⌜ shownModule r ≡ firstOf (now (body .entry)) from ⌝ }
+{
+    let end = modules(body);
+    let mut at = from;
+    while at < end {
+        if is_set(body, at) {
+            return Module::At(at);
+        }
+        at += 1;
+    }
+    Module::Nothing
+}
+
+// How many modules have a bit in the body.
+fn modules(body: &[u8]) -> usize
+    ensures { λ r. ⌜ r ≡ modulesOf (now (body .entry)) ⌝ }
+{
+    if body.len() < 62 {
+        8 * body.len()
+    } else {
+        MODULES
+    }
+}

@@ -1,0 +1,2 @@
+-- the pair of ends that the exported calls make
+pub mod ExportedLink

@@ -1,0 +1,2 @@
+-- a line: its figures, and its bytes
+pub mod Lines

@@ -4,9 +4,12 @@ use borrow.Author.Tests.{eq-eqb, ne-eqb}
 use Rattle.exports_guarded.proofs.CallLaws.{keeps}
 use Rattle.exports_guarded.proofs.guarded_responder.koy_guarded_responder_answer.Statement.{statement}
 use Rattle.exports_guarded.proofs.guarded_responder.koy_guarded_responder_answer.Tie as tie
+use Rattle.exports_guarded.specs.Guards.{handedOf}
 
 another : tie.Need-returns
-another c = rw (ne-eqb _ _ (c .if1 .taken))
+another c =
+    let a = c .before .before .before .before .args in
+    rw (ne-eqb (a .number) (handedOf (a .guard .now)) (c .if1 .taken))
 
 named : tie.Need-returns-2
 named c =

@@ -1,4 +1,3 @@
 pub mod NoSecondOutcome
-pub mod OurDemand2
 pub mod Samples
-pub mod WrongSystems
+pub mod WrongLister

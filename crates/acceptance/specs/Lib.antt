@@ -1,2 +1,1 @@
-pub mod Demand2
 pub mod Samples

@@ -1,2 +1,2 @@
-// What the libraries are held to as a whole. The crate has no code: specs/ states document 01's samples, demand 2 of any reader, station
-// list and walk, and what it is that no second outcome fits a promise; proofs/ shows each of ours, and refutes the wrong ones.
+// What the libraries are held to as a whole. The crate has no code: specs/ states document 01's samples; proofs/ shows them, that no second
+// outcome fits the promise of any public call, and refutes a lister that invents.

@@ -1,0 +1,8 @@
+-- Read `Demand2`, then what each of the four is held to; the station list's stands in `station_lists`.
+pub mod Demand2
+-- of any reader
+pub mod Readers
+-- of any writer
+pub mod Writers
+-- of any walk over a diagnostics buffer
+pub mod Walks

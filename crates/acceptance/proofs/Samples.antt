@@ -10,12 +10,12 @@ use Rattle.diagnostics_blocks.specs.Channel.{errorOf, typeOf}
 use Rattle.diagnostics_blocks.specs.Modules.{bitOf, modulesOf, firstOf}
 use Rattle.diagnostics.specs.Walk.{blockAt, headedBy, lengthOf, stepOf}
 use Rattle.link_telegrams.specs.Heard.{dataToOf, requestToOf, requestHeardOf}
-use Rattle.telegram.specs.Reading.{headerAt, sapsAt, contentOf, frameOf, lengthsOf, dataOf, tokenOf, readOf}
+use Rattle.telegram.specs.Reading.{headerAt, sapsAt, readOf}
 use Rattle.token_ring.specs.Flags.{cleared, quiet, lowestFrom, highestBelow}
 use Rattle.token_ring.specs.Rules.{swept, passed, nextOf, previousOf, holds, fresh, made, inPhase, withFlags, updated, effectOf, effected, witnessed}
 
 pub samples : Samples
-unfolding sumOf checksumOf functionCodeOf shownPart requestTypeOf stateOf statusOf errorOf typeOf bitOf modulesOf firstOf blockAt headedBy lengthOf stepOf dataToOf requestToOf requestHeardOf headerAt sapsAt contentOf frameOf lengthsOf dataOf tokenOf readOf cleared quiet lowestFrom highestBelow swept passed nextOf previousOf holds fresh made inPhase withFlags updated effectOf effected witnessed
+unfolding sumOf checksumOf functionCodeOf shownPart requestTypeOf stateOf statusOf errorOf typeOf bitOf modulesOf firstOf blockAt headedBy lengthOf stepOf dataToOf requestToOf requestHeardOf headerAt sapsAt readOf cleared quiet lowestFrom highestBelow swept passed nextOf previousOf holds fresh made inPhase withFlags updated effectOf effected witnessed
 samples =
     record {
       orderAtLow = refl;

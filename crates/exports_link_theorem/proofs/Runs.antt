@@ -31,7 +31,7 @@ use Rattle.responder.specs.Calls as responder
 use Rattle.responder.specs.Records as responderRecords
 use Rattle.responder_row.specs.Rows.{rowHears, rowAnswers}
 use Rattle.telegram.specs.Picture.{headBytes, coveredBytes, lengthByte, startBytes, telegramBytes}
-use Rattle.telegram.specs.Reading.{headerAt, sapsAt, contentOf, frameOf, lengthsOf, dataOf, tokenOf, readOf}
+use Rattle.telegram.specs.Reading.{headerAt, sapsAt, readOf}
 use Rattle.telegram_tx.specs.Writing.{sendOf, writeOf}
 
 -- memory as it was found, and told numbers left from another call
@@ -127,7 +127,7 @@ pub record Runs : Type 0 where
       ((0x02 ∷ []) ∷ (0x01 ∷ 0x03 ∷ []) ∷ []) false)
 
 pub runs : Runs
-unfolding crossed newCall phaseOf stateOf bytes.lengthByte wrongAddresses wrongTries wrongLength sumOf checksumOf codeByte functionCodeOf requestTypeOf responses.stateOf responses.statusOf headerAt sapsAt contentOf frameOf lengthsOf dataOf tokenOf readOf headBytes coveredBytes lengthByte startBytes telegramBytes sendOf writeOf copiedTo submitOf silenceOf hearOf restartOf madeOf openingHeader orderHeader okHeader replyHeader dataToOf requestToOf requestHeardOf replyHeardOf responder.hearOf responder.answerOf responderRecords.madeOf rowHears rowAnswers bearsBoth
+unfolding crossed newCall phaseOf stateOf bytes.lengthByte wrongAddresses wrongTries wrongLength sumOf checksumOf codeByte functionCodeOf requestTypeOf responses.stateOf responses.statusOf headerAt sapsAt readOf headBytes coveredBytes lengthByte startBytes telegramBytes sendOf writeOf copiedTo submitOf silenceOf hearOf restartOf madeOf openingHeader orderHeader okHeader replyHeader dataToOf requestToOf requestHeardOf replyHeardOf responder.hearOf responder.answerOf responderRecords.madeOf rowHears rowAnswers bearsBoth
 runs =
     record {
       an-order-is-confirmed =

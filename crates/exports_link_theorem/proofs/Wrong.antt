@@ -34,7 +34,7 @@ use Rattle.responder.specs.Calls as responder
 use Rattle.responder.specs.Records as responderRecords
 use Rattle.responder_row.specs.Rows.{rowHears, rowAnswers}
 use Rattle.telegram.specs.Picture.{headBytes, coveredBytes, lengthByte, startBytes, telegramBytes}
-use Rattle.telegram.specs.Reading.{headerAt, sapsAt, contentOf, frameOf, lengthsOf, dataOf, tokenOf, readOf}
+use Rattle.telegram.specs.Reading.{headerAt, sapsAt, readOf}
 use Rattle.telegram_tx.specs.Writing.{sendOf, writeOf}
 
 -- what a boundary makes of a call that was lent these bytes of a record
@@ -145,7 +145,7 @@ pub record Refuted : Type 0 where
   pub tells-no-refusal : Demand refusalUntold → ⊥
 
 pub refuted : Refuted
-unfolding crossed newCall phaseOf stateOf bytes.lengthByte wrongAddresses wrongTries wrongLength sumOf checksumOf codeByte functionCodeOf requestTypeOf responses.stateOf responses.statusOf headerAt sapsAt contentOf frameOf lengthsOf dataOf tokenOf readOf headBytes coveredBytes lengthByte startBytes telegramBytes sendOf writeOf copiedTo submitOf silenceOf hearOf madeOf openingHeader orderHeader okHeader replyHeader dataToOf requestToOf requestHeardOf replyHeardOf responder.hearOf responder.answerOf responderRecords.madeOf rowHears rowAnswers
+unfolding crossed newCall phaseOf stateOf bytes.lengthByte wrongAddresses wrongTries wrongLength sumOf checksumOf codeByte functionCodeOf requestTypeOf responses.stateOf responses.statusOf headerAt sapsAt readOf headBytes coveredBytes lengthByte startBytes telegramBytes sendOf writeOf copiedTo submitOf silenceOf hearOf madeOf openingHeader orderHeader okHeader replyHeader dataToOf requestToOf requestHeardOf replyHeardOf responder.hearOf responder.answerOf responderRecords.madeOf rowHears rowAnswers
 refuted =
     record {
       stores-nothing-heard =

@@ -29,7 +29,7 @@ use Rattle.responder.specs.Calls as responder
 use Rattle.responder.specs.Records as responderRecords
 use Rattle.responder_row.specs.Rows.{rowHears, rowAnswers}
 use Rattle.telegram.specs.Picture.{headBytes, coveredBytes, lengthByte, startBytes, telegramBytes}
-use Rattle.telegram.specs.Reading.{headerAt, sapsAt, contentOf, frameOf, lengthsOf, dataOf, tokenOf, readOf}
+use Rattle.telegram.specs.Reading.{headerAt, sapsAt, readOf}
 use Rattle.telegram_tx.specs.Writing.{sendOf, writeOf}
 
 -- stations 2 and 5
@@ -232,7 +232,7 @@ pub record Runs : Type 0 where
   pub a-dead-line-sends-nothing : Ends deadLine (history (entry (0x02 ∷ []) [] (ended (notSent 2)) 2 0 ∷ []) [] false)
 
 pub runs : Runs
-unfolding wrongAddresses wrongTries wrongLength sumOf checksumOf codeByte functionCodeOf requestTypeOf stateOf statusOf headerAt sapsAt contentOf frameOf lengthsOf dataOf tokenOf readOf headBytes coveredBytes lengthByte startBytes telegramBytes sendOf writeOf shownPart copiedTo submitOf silenceOf hearOf restartOf madeOf openingHeader orderHeader okHeader replyHeader dataToOf requestToOf requestHeardOf replyHeardOf responder.hearOf responder.answerOf responderRecords.madeOf rowHears rowAnswers bearsBoth
+unfolding wrongAddresses wrongTries wrongLength sumOf checksumOf codeByte functionCodeOf requestTypeOf stateOf statusOf headerAt sapsAt readOf headBytes coveredBytes lengthByte startBytes telegramBytes sendOf writeOf shownPart copiedTo submitOf silenceOf hearOf restartOf madeOf openingHeader orderHeader okHeader replyHeader dataToOf requestToOf requestHeardOf replyHeardOf responder.hearOf responder.answerOf responderRecords.madeOf rowHears rowAnswers bearsBoth
 runs =
     record {
       an-order-is-confirmed =
@@ -275,7 +275,7 @@ pub record LastSentence : Type 0 where
   pub computed : reportAt 0 (entriesOf (passedAtSecond .past)) ≡ ended (confirmed (0x07 ∷ []) 2)
 
 second-tries : Phases link openingSent submittedFirst passedAtSecond
-unfolding wrongAddresses wrongTries wrongLength sumOf checksumOf codeByte functionCodeOf requestTypeOf stateOf statusOf headerAt sapsAt contentOf frameOf lengthsOf dataOf tokenOf readOf headBytes coveredBytes lengthByte startBytes telegramBytes sendOf writeOf shownPart copiedTo submitOf silenceOf hearOf restartOf madeOf openingHeader orderHeader okHeader replyHeader dataToOf requestToOf requestHeardOf replyHeardOf responder.hearOf responder.answerOf responderRecords.madeOf rowHears rowAnswers bearsBoth
+unfolding wrongAddresses wrongTries wrongLength sumOf checksumOf codeByte functionCodeOf requestTypeOf stateOf statusOf headerAt sapsAt readOf headBytes coveredBytes lengthByte startBytes telegramBytes sendOf writeOf shownPart copiedTo submitOf silenceOf hearOf restartOf madeOf openingHeader orderHeader okHeader replyHeader dataToOf requestToOf requestHeardOf replyHeardOf responder.hearOf responder.answerOf responderRecords.madeOf rowHears rowAnswers bearsBoth
 second-tries =
     opensFirst
     (record { k = 2; fromOne = lit≤ tt; toTries = lit≤ tt; tried = again over wide (passed wide prompt wide) })
@@ -287,7 +287,7 @@ second-tries =
     })
 
 pub last-sentence : LastSentence
-unfolding wrongAddresses wrongTries wrongLength sumOf checksumOf codeByte functionCodeOf requestTypeOf stateOf statusOf headerAt sapsAt contentOf frameOf lengthsOf dataOf tokenOf readOf headBytes coveredBytes lengthByte startBytes telegramBytes sendOf writeOf shownPart copiedTo submitOf silenceOf hearOf restartOf madeOf openingHeader orderHeader okHeader replyHeader dataToOf requestToOf requestHeardOf replyHeardOf responder.hearOf responder.answerOf responderRecords.madeOf rowHears rowAnswers bearsBoth
+unfolding wrongAddresses wrongTries wrongLength sumOf checksumOf codeByte functionCodeOf requestTypeOf stateOf statusOf headerAt sapsAt readOf headBytes coveredBytes lengthByte startBytes telegramBytes sendOf writeOf shownPart copiedTo submitOf silenceOf hearOf restartOf madeOf openingHeader orderHeader okHeader replyHeader dataToOf requestToOf requestHeardOf replyHeardOf responder.hearOf responder.answerOf responderRecords.madeOf rowHears rowAnswers bearsBoth
 last-sentence =
     record {
       premise = second-tries;

@@ -36,7 +36,7 @@ use Rattle.responder.specs.Records as responderRecords
 use Rattle.responder_row.specs.Rows.{rowHears}
 use Rattle.responder.specs.declared.state.Responder.{Responder}
 use Rattle.telegram.specs.Picture.{headBytes, coveredBytes, lengthByte, startBytes, telegramBytes}
-use Rattle.telegram.specs.Reading.{Reading, whole, incomplete, refused, headerAt, sapsAt, contentOf, frameOf, lengthsOf, dataOf, tokenOf, readOf}
+use Rattle.telegram.specs.Reading.{Reading, whole, incomplete, refused, headerAt, sapsAt, readOf}
 use Rattle.telegram.specs.declared.kinds.Telegram.the-variants.{Data, Token, ShortConfirmation}
 use Rattle.telegram_tx.specs.Writing.{sendOf, writeOf}
 
@@ -175,7 +175,7 @@ pub record Refuted : Type 0 where
   pub refuses-the-longest-order : Demand refusesLongest → ⊥
 
 pub refuted : Refuted
-unfolding wrongAddresses wrongTries wrongLength sumOf checksumOf codeByte functionCodeOf requestTypeOf stateOf statusOf headerAt sapsAt contentOf frameOf lengthsOf dataOf tokenOf readOf headBytes coveredBytes lengthByte startBytes telegramBytes sendOf writeOf shownPart copiedTo submitOf silenceOf hearOf madeOf openingHeader orderHeader okHeader replyHeader dataToOf requestToOf requestHeardOf replyHeardOf responder.hearOf responderRecords.madeOf rowHears bearsBoth
+unfolding wrongAddresses wrongTries wrongLength sumOf checksumOf codeByte functionCodeOf requestTypeOf stateOf statusOf headerAt sapsAt readOf headBytes coveredBytes lengthByte startBytes telegramBytes sendOf writeOf shownPart copiedTo submitOf silenceOf hearOf madeOf openingHeader orderHeader okHeader replyHeader dataToOf requestToOf requestHeardOf replyHeardOf responder.hearOf responderRecords.madeOf rowHears bearsBoth
 refuted =
     record {
       takes-replies-from-any-station =

@@ -9,7 +9,7 @@ use Rattle.codes.specs.Checksums.{sumOf, checksumOf}
 use Rattle.codes.specs.FunctionCodes.{functionCodeOf}
 use Rattle.codes.specs.RequestTypes.{requestTypeOf}
 use Rattle.codes.specs.Responses.{stateOf, statusOf}
-use Rattle.telegram.specs.Reading.{headerAt, sapsAt, contentOf as checkedOf, frameOf, lengthsOf, dataOf, tokenOf, readOf}
+use Rattle.telegram.specs.Reading.{headerAt, sapsAt, readOf}
 use Rattle.telegram.specs.Stream.{streamFrom, streamOf}
 use Rattle.text.specs.Begins.{begins}
 use Rattle.text.specs.Decimal.{digits, decimalOf, isDigit, digitsIn, numberAt}
@@ -57,7 +57,7 @@ pub record ListingSamples : Type 0 where
   pub aboveTheLimit : outputOf (replicate 4097 0xE5) ≡ bytesOf "refused=22\n"
 
 pub listing-samples : ListingSamples
-unfolding sumOf checksumOf functionCodeOf requestTypeOf stateOf statusOf headerAt sapsAt checkedOf frameOf lengthsOf dataOf tokenOf readOf digits decimalOf placeOf headerOf contentOf lineOf endOf streamFrom streamText bytesLine listingOf
+unfolding sumOf checksumOf functionCodeOf requestTypeOf stateOf statusOf headerAt sapsAt readOf digits decimalOf placeOf headerOf contentOf lineOf endOf streamFrom streamText bytesLine listingOf
 listing-samples =
     record {
       document01 = refl;

@@ -17,7 +17,7 @@ use Rattle.responder.specs.Records.{blankOf}
 use Rattle.responder_row.specs.Rows.{rowHears, rowAnswers}
 use Rattle.responder.specs.declared.state.Responder.{Responder}
 use Rattle.telegram.specs.Picture.{headBytes, coveredBytes, lengthByte, startBytes, telegramBytes}
-use Rattle.telegram.specs.Reading.{headerAt, sapsAt, contentOf, frameOf, lengthsOf, dataOf, tokenOf, readOf}
+use Rattle.telegram.specs.Reading.{headerAt, sapsAt, readOf}
 use Rattle.telegram_tx.specs.Writing.{sendOf, writeOf}
 
 abbrev buf : List ℕ
@@ -82,7 +82,7 @@ pub record Scene : Type 0 where
   pub no-room : hearOf made opening (replicate 254 0) .said ≡ refused 10
 
 pub scene : Scene
-unfolding wrongAddresses wrongLength sumOf checksumOf codeByte functionCodeOf requestTypeOf stateOf statusOf headerAt sapsAt contentOf frameOf lengthsOf dataOf tokenOf readOf headBytes coveredBytes lengthByte startBytes telegramBytes sendOf writeOf okHeader replyHeader dataToOf requestToOf requestHeardOf rowHears rowAnswers hearOf answerOf
+unfolding wrongAddresses wrongLength sumOf checksumOf codeByte functionCodeOf requestTypeOf stateOf statusOf headerAt sapsAt readOf headBytes coveredBytes lengthByte startBytes telegramBytes sendOf writeOf okHeader replyHeader dataToOf requestToOf requestHeardOf rowHears rowAnswers hearOf answerOf
 scene =
     record {
       no-bit = refl;

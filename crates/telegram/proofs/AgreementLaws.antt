@@ -16,7 +16,8 @@ use Rattle.ground.specs.Part.{part, byteAt}
 use Rattle.codes.specs.declared.function_code.FunctionCode.{FunctionCode}
 use Rattle.telegram.proofs.Answers.{Content, sap-missing, sum-differs, end-differs, content-whole, Frame, under-total, code-unknown, code-known, Answered, nothing, confirmation, token-short, token-whole, unknown, data-short, lengths-differ, length-small, sd1, sd2, sd3, content-answered, answer-content, answer-is}
 use Rattle.telegram.proofs.ReadingLaws.{reason, total-within}
-use Rattle.telegram.specs.Reading.{Reading, whole, incomplete, refused, top, sapAt, headerAt, sapsAt, contentOf, readOf}
+use Rattle.telegram.specs.Leaves.{contentOf}
+use Rattle.telegram.specs.Reading.{Reading, whole, incomplete, refused, top, sapAt, headerAt, sapsAt, readOf}
 use Rattle.telegram.specs.declared.kinds.Telegram.{Telegram}
 
 -- The header and its SAPs stand in five bytes: where these are the same from two places on, so are they.

@@ -1,5 +1,5 @@
 -- Every answer of reading, with what is known where it is given (`Answered`): the laws of reading go by these cases. Read `answered` and
--- `answer-is`, the two ways.
+-- `answer-is`, the two ways, and `steps-read`: the table of document 01 and the steps of our reader answer alike.
 use Prim.Native.Nat.{ℕ, suc, _+_, _<_, _≤_}
 use mathlib.Core.Bool.{Bool, true, false, not}
 use mathlib.Core.List.{List}
@@ -12,53 +12,32 @@ use borrow.Author.Tests.{ltb-true, ltb-false, eqb-true, eqb-false, not-true, not
 use Rattle.ground.proofs.Injective.{zero-one}
 use Rattle.ground.proofs.PickLaws.{picked}
 use Rattle.codes.specs.Checksums.{checksumOf}
-use Rattle.codes.specs.FunctionCodes.{functionCodeOf}
+use Rattle.codes.specs.FunctionCodes.{functionCodeOf, isRead}
 use Rattle.ground.specs.Part.{part, byteAt}
 use Rattle.ground.specs.Pick.{if}
 use Rattle.codes.specs.declared.function_code.FunctionCode.{FunctionCode}
 use Rattle.codes.specs.declared.function_code.FunctionCodeFound.{FunctionCodeFound}
 use Rattle.codes.specs.declared.function_code.FunctionCodeFound.the-variants as codeFound
 use Rattle.codes.specs.Delimiters.{SD1, SD2, SD3, SD4, SC, ED}
-use Rattle.telegram.specs.Reading.{Reading, whole, incomplete, refused, sapsAt, telegramAt, tokenAt, contentOf, codeOf, frameOf, lengthsOf, dataOf, tokenOf, startsData, readOf}
+use Rattle.telegram.specs.Leaves.{contentOf, codeOf, frameOf, lengthsOf, dataOf, tokenOf, stepsOf}
+use Rattle.telegram.specs.Reading.{Reading, whole, incomplete, refused, sapsAt, telegramAt, tokenAt, startsData, dataRead, readOf}
 use Rattle.telegram.specs.declared.kinds.Telegram.the-variants.{Data, Token, ShortConfirmation}
 
 -- A first byte of a data telegram.
 abbrev pub DataStart : ℕ → Type 0
 DataStart b = (b ≡ SD1) ⊎ ((b ≡ SD2) ⊎ (b ≡ SD3))
 
--- What each step of reading answers where its tests are decided, from the first byte on.
+-- What each step of our reader answers where its tests are decided, from the first byte on.
 module _ (s : List ℕ) where
-  pub nothing-read : length s ≡ 0 → readOf s ≡ incomplete
-  unfolding readOf
-  nothing-read h = rw (eq-eqb _ _ h)
+  steps-token : (length s ≡ 0 → ⊥) → byteAt s 0 ≡ SD4 → stepsOf s ≡ tokenOf s
+  unfolding stepsOf
+  steps-token h e = rw (ne-eqb _ _ h, e)
 
-  pub confirmation-read : (length s ≡ 0 → ⊥) → byteAt s 0 ≡ SC → readOf s ≡ whole ShortConfirmation 1
-  unfolding readOf
-  confirmation-read h e = rw (ne-eqb _ _ h, e)
-
-  pub token-start : (length s ≡ 0 → ⊥) → byteAt s 0 ≡ SD4 → readOf s ≡ tokenOf s
-  unfolding readOf
-  token-start h e = rw (ne-eqb _ _ h, e)
-
-  pub data-start : (length s ≡ 0 → ⊥) → DataStart (byteAt s 0) → readOf s ≡ dataOf s
-  unfolding readOf
-  data-start h (inl e) = rw (ne-eqb _ _ h, e)
-  data-start h (inr (inl e)) = rw (ne-eqb _ _ h, e)
-  data-start h (inr (inr e)) = rw (ne-eqb _ _ h, e)
-
-  pub unknown-read :
-      (length s ≡ 0 → ⊥) → (byteAt s 0 ≡ SC → ⊥) → (byteAt s 0 ≡ SD4 → ⊥) → (DataStart (byteAt s 0) → ⊥)
-      → readOf s ≡ refused 1
-  unfolding readOf
-  unknown-read h a b d =
-      rw (
-        ne-eqb _ _ h,
-        ne-eqb _ _ a,
-        ne-eqb _ _ b,
-        ne-eqb _ _ (λ e. d (inl e)),
-        ne-eqb _ _ (λ e. d (inr (inl e))),
-        ne-eqb _ _ (λ e. d (inr (inr e))),
-      )
+  steps-data : (length s ≡ 0 → ⊥) → DataStart (byteAt s 0) → stepsOf s ≡ dataOf s
+  unfolding stepsOf
+  steps-data h (inl e) = rw (ne-eqb _ _ h, e)
+  steps-data h (inr (inl e)) = rw (ne-eqb _ _ h, e)
+  steps-data h (inr (inr e)) = rw (ne-eqb _ _ h, e)
 
   pub token-under : length s < 3 → tokenOf s ≡ incomplete
   unfolding tokenOf
@@ -204,10 +183,9 @@ unfolding tokenOf
 token-answered s h d =
     picked (Answered s) (ltb (length s) 3) (λ e. token-short h d (ltb-true _ _ e)) (λ e. token-whole (ltb-false _ _ e) d)
 
--- Every answer is given for its reason.
-pub answered : (s : List ℕ) → Answered s (readOf s)
-unfolding readOf
-answered s =
+steps-answered : (s : List ℕ) → Answered s (stepsOf s)
+unfolding stepsOf
+steps-answered s =
     picked (Answered s) (eqb (length s) 0) (λ e. nothing (eqb-true _ _ e))
     (λ some. picked (Answered s) (eqb (byteAt s 0) SC)
     (λ e. confirmation (filled (eqb-false _ _ some)) (eqb-true _ _ e))
@@ -243,20 +221,76 @@ answer-frame (under-total h) = rw (lt-ltb _ _ h)
 answer-frame (code-unknown h e) = rw (le-ltb _ _ h, e)
 answer-frame (code-known fc h e c) = code-read _ _ _ fc h e ∙ answer-content c
 
-no-zero : {n k : ℕ} → suc k ≤ n → n ≡ 0 → ⊥
-no-zero h e = omega arith
+-- ---- the table of document 01
 
--- Where there is a reason for an answer, it is given.
+-- the last lines, from step 3 on, where da stands at a place with l bytes from there through the PDU
+abbrev tail : List ℕ → ℕ → ℕ → Reading
+tail s at l =
+    if (ltb (length s) (at + l + 2)) incomplete
+    (if (not (isRead (functionCodeOf (byteAt s (at + 2))))) (refused 4)
+    (if (ltb l (3 + sapsAt s at)) (refused 5)
+    (if (not (eqb (byteAt s (at + l)) (checksumOf (part s at (at + l))))) (refused 6)
+    (if (not (eqb (byteAt s (at + l + 1)) ED)) (refused 7)
+    (dataRead s at l (functionCodeOf (byteAt s (at + 2))))))))
+
+tail-is : {s : List ℕ} {at l : ℕ} {r : Reading} → Frame s at l r → tail s at l ≡ r
+tail-is (under-total h) = rw (lt-ltb _ _ h)
+tail-is (code-unknown h e) = rw (le-ltb _ _ h, e)
+tail-is (code-known fc h e (sap-missing f)) = rw (le-ltb _ _ h, e, lt-ltb _ _ f)
+tail-is (code-known fc h e (sum-differs f d)) = rw (le-ltb _ _ h, e, le-ltb _ _ f, ne-eqb _ _ d)
+tail-is (code-known fc h e (end-differs f d g)) = rw (le-ltb _ _ h, e, le-ltb _ _ f, eq-eqb _ _ d, ne-eqb _ _ g)
+tail-is (code-known fc h e (content-whole f d g)) = rw (le-ltb _ _ h, e, le-ltb _ _ f, eq-eqb _ _ d, eq-eqb _ _ g)
+
+pub some-bytes : {n k : ℕ} → suc k ≤ n → eqb n 0 ≡ false
+some-bytes {n} {k} h = ne-eqb n 0 (λ e. omega arith)
+
+-- Where there is a reason for an answer, the table gives it.
 pub answer-is : {s : List ℕ} {r : Reading} → Answered s r → readOf s ≡ r
-answer-is {s} (nothing h) = nothing-read s h
-answer-is {s} (confirmation h e) = confirmation-read s (no-zero h) e
-answer-is {s} (token-short h e l) = token-start s (no-zero h) e ∙ token-under s l
-answer-is {s} (token-whole h e) = token-start s (no-zero h) e ∙ token-read s h
-answer-is {s} (unknown h a b d) = unknown-read s (no-zero h) a b d
-answer-is {s} (data-short h d l) = data-start s (no-zero h) d ∙ data-under s l
-answer-is {s} (lengths-differ h d e) = data-start s (no-zero h) (inr (inl d)) ∙ sd2-read s h d ∙ differ-read s e
-answer-is {s} (length-small h d e l) = data-start s (no-zero h) (inr (inl d)) ∙ sd2-read s h d ∙ small-read s e l
-answer-is {s} (sd1 h d f) = data-start s (no-zero h) (inl d) ∙ sd1-read s h d ∙ answer-frame f
-answer-is {s} (sd2 h d e l f) = data-start s (no-zero h) (inr (inl d)) ∙ sd2-read s h d ∙ lengths-read s e l ∙ answer-frame f
-answer-is {s} (sd3 h d f) =
-    data-start s (no-zero h) (inr (inr d)) ∙ sd3-read s h (λ e. omega arith) (λ e. omega arith) ∙ answer-frame f
+unfolding readOf
+answer-is (nothing h) = rw (eq-eqb _ _ h)
+answer-is (confirmation h e) = rw (some-bytes h, e)
+answer-is (token-short h e l) = rw (some-bytes h, e, lt-ltb _ _ l)
+answer-is (token-whole h e) = rw (some-bytes h, e, le-ltb _ _ h)
+answer-is (unknown h a b d) =
+    rw (
+      some-bytes h,
+      ne-eqb _ _ a,
+      ne-eqb _ _ b,
+      ne-eqb _ _ (λ e. d (inl e)),
+      ne-eqb _ _ (λ e. d (inr (inl e))),
+      ne-eqb _ _ (λ e. d (inr (inr e))),
+    )
+answer-is (data-short h (inl e) l) = rw (some-bytes h, e, lt-ltb _ _ l)
+answer-is (data-short h (inr (inl e)) l) = rw (some-bytes h, e, lt-ltb _ _ l)
+answer-is (data-short h (inr (inr e)) l) = rw (some-bytes h, e, lt-ltb _ _ l)
+answer-is (lengths-differ h d e) = rw (some-bytes h, d, le-ltb _ _ h, ne-eqb _ _ e)
+answer-is (length-small h d e l) = rw (some-bytes h, d, le-ltb _ _ h, eq-eqb _ _ e, lt-ltb _ _ l)
+-- (of SD1 the total is 6, so that step 1 is step 3)
+answer-is (sd1 h d f) = rw (some-bytes h, d, le-ltb _ _ h) (rw (le-ltb _ _ h) at (tail-is f))
+answer-is (sd2 h d e l f) = rw (some-bytes h, d, le-ltb _ _ h, eq-eqb _ _ e, le-ltb _ _ l) (tail-is f)
+answer-is (sd3 h d f) = rw (some-bytes h, d, le-ltb _ _ h) (tail-is f)
+
+-- The table and the steps of our reader answer alike.
+pub steps-read : (s : List ℕ) → readOf s ≡ stepsOf s
+steps-read s = answer-is (steps-answered s)
+
+-- Every answer is given for its reason.
+pub answered : (s : List ℕ) → Answered s (readOf s)
+answered s = rw (steps-read s) (steps-answered s)
+
+-- What a first byte leads to, for the reader's proof.
+module _ (s : List ℕ) where
+  filled : (length s ≡ 0 → ⊥) → 1 ≤ length s
+  filled h = omega arith
+
+  pub nothing-read : length s ≡ 0 → readOf s ≡ incomplete
+  nothing-read h = answer-is (nothing h)
+
+  pub confirmation-read : (length s ≡ 0 → ⊥) → byteAt s 0 ≡ SC → readOf s ≡ whole ShortConfirmation 1
+  confirmation-read h e = answer-is (confirmation (filled h) e)
+
+  pub token-start : (length s ≡ 0 → ⊥) → byteAt s 0 ≡ SD4 → readOf s ≡ tokenOf s
+  token-start h e = steps-read s ∙ steps-token s h e
+
+  pub data-start : (length s ≡ 0 → ⊥) → DataStart (byteAt s 0) → readOf s ≡ dataOf s
+  data-start h d = steps-read s ∙ steps-data s h d

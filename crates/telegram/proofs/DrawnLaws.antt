@@ -17,7 +17,7 @@ use Rattle.ground.specs.Part.{part, byteAt}
 use Rattle.codes.specs.declared.function_code.FunctionCode.{FunctionCode}
 use Rattle.telegram.proofs.AgreementLaws.{header-same, saps-same}
 use Rattle.telegram.proofs.Answers.{Content, content-whole, Frame, code-known, confirmation, token-whole, sd1, sd2, sd3, answer-is}
-use Rattle.telegram.specs.Begins.{Rules, standard, document01, StartOf, withSD1, withSD2, withSD3, DrawsData, Draws, Begins}
+use Rattle.telegram.specs.Begins.{Rules, standard, document01, StartOf, withSD1, withSD2, withSD3, SapMayBe, DrawsData, Draws, Begins}
 use Rattle.codes.specs.Delimiters.{SD1, SD2, SD3, ED}
 use Rattle.telegram.specs.Picture.{addressByte, sapBytes, headWith, framed}
 use Rattle.telegram.specs.Reading.{whole, top, sapAt, headerAt, sapsAt, telegramAt, readOf}
@@ -173,10 +173,18 @@ data-reads {d} rest draws =
     rw (draws .drawn, total, framed-then (draws .start) c rest)
     (start-read d (draws .daSmall) (draws .saSmall) (draws .code) (draws .codeIs) (draws .pdu) rest c refl (draws .pduLen) (draws .startIs) refl (draws .pduStart))
 
+-- The bytes of a data telegram and of what follows it, from its start on.
+pub begins-from :
+    {rules : Rules} {s : List ℕ} {d : DataTelegram} {n : ℕ} (b : Begins rules s (Data d) n)
+    → s ≡ framedThen (b .draws .start) (headWith (d .h) (b .draws .code) ++ b .draws .pdu) (b .rest)
+begins-from {d = d} b =
+    b .bytes ∙ ap (λ q. q ++ b .rest) (b .draws .drawn)
+    ∙ framed-then (b .draws .start) (headWith (d .h) (b .draws .code) ++ b .draws .pdu) (b .rest)
+
 -- What begins with the picture of a telegram is read as it.
 pub picture-reads : {s : List ℕ} {t : Telegram} {n : ℕ} → Begins document01 s t n → readOf s ≡ whole t n
 picture-reads {t = Data d} b = rw (b .bytes, b .total) (data-reads (b .rest) (b .draws))
-picture-reads {t = Token t} b = rw (b .bytes, b .total, b .draws) (answer-is (token-whole (omega arith) refl))
+picture-reads {t = Token t} b = rw (b .bytes, b .total, b .draws .drawn) (answer-is (token-whole (omega arith) refl))
 picture-reads {t = ShortConfirmation} b = rw (b .bytes, b .total, b .draws) (answer-is (confirmation (omega arith) refl))
 
 -- Rules that allow all that others allow.
@@ -184,12 +192,19 @@ pub record Wider (narrow wide : Rules) : Type 0 where
   pub lengths : (l : ℕ) → narrow .lengthMayBe l → wide .lengthMayBe l
   pub fourths : (b : ℕ) → narrow .fourthMayBe b → wide .fourthMayBe b
   pub codes : (fc : FunctionCode) (b : ℕ) → narrow .codeMayBe fc b → wide .codeMayBe fc b
+  pub saps : (b : ℕ) → narrow .sapMayBe b → wide .sapMayBe b
+  pub sources : (a : ℕ) → narrow .sourceMayBe a → wide .sourceMayBe a
+  pub tokens : (a : ℕ) → narrow .tokenMayBe a → wide .tokenMayBe a
 
 module _ {narrow wide : Rules} (wider : Wider narrow wide) where
   starts-wider : {l : ℕ} {start : List ℕ} → StartOf narrow l start → StartOf wide l start
   starts-wider withSD1 = withSD1
   starts-wider withSD3 = withSD3
   starts-wider (withSD2 {l} {fourth} low any) = withSD2 (wider .lengths l low) (wider .fourths fourth any)
+
+  saps-wider : (o : SapOption) → SapMayBe narrow o → SapMayBe wide o
+  saps-wider (Some sap) is = wider .saps (sap .0) is
+  saps-wider None is = tt
 
   draws-wider : (t : Telegram) (picture : List ℕ) → Draws narrow t picture → Draws wide t picture
   draws-wider (Data d) picture draws =
@@ -200,12 +215,16 @@ module _ {narrow wide : Rules} (wider : Wider narrow wide) where
         drawn = draws .drawn;
         startIs = starts-wider (draws .startIs);
         codeIs = wider .codes (d .h .fc) (draws .code) (draws .codeIs);
+        dsapIs = saps-wider (d .h .dsap) (draws .dsapIs);
+        ssapIs = saps-wider (d .h .ssap) (draws .ssapIs);
         daSmall = draws .daSmall;
         saSmall = draws .saSmall;
+        sourceIs = wider .sources (d .h .sa .0) (draws .sourceIs);
         pduStart = draws .pduStart;
         pduLen = draws .pduLen;
       }
-  draws-wider (Token t) picture draws = draws
+  draws-wider (Token t) picture draws =
+      record { drawn = draws .drawn; daIs = wider .tokens (t .da .0) (draws .daIs); saIs = wider .tokens (t .sa .0) (draws .saIs) }
   draws-wider ShortConfirmation picture draws = draws
 
   pub begins-wider : {s : List ℕ} {t : Telegram} {n : ℕ} → Begins narrow s t n → Begins wide s t n
@@ -225,6 +244,9 @@ standard-wider =
       lengths = λ l low. omega (arith, low .0);
       fourths = λ b e. tt;
       codes = λ fc b e. rw e asWritten;
+      saps = λ b e. tt;
+      sources = λ a e. tt;
+      tokens = λ a e. tt;
     }
 
 pub standard-begins : {s : List ℕ} {t : Telegram} {n : ℕ} → Begins standard s t n → Begins document01 s t n

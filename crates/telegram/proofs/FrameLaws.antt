@@ -4,12 +4,12 @@
 use Prim.Native.Nat.{ℕ, _+_, _-_, _<_, _≤_}
 use mathlib.Core.Bool.{Bool, true, false, not}
 use mathlib.Core.List.{List}
-use mathlib.Core.Logic.{_⊎_, inl, inr}
+use mathlib.Core.Logic.{inl, inr}
 use mathlib.Core.Path.{_≡_, refl, sym, ap, _∙_}
 use native.Mathlib.Omega.{arith}
 use lib.Dec.{eqb, ltb}
 use lib.ListN.{length}
-use borrow.Author.Tests.{ltb-true, ltb-false, eqb-true, eqb-false, lt-ltb, le-ltb, eq-eqb, ne-eqb}
+use borrow.Author.Tests.{ltb-true, ltb-false, eqb-true, lt-ltb, le-ltb, eq-eqb, ne-eqb}
 use Rattle.codes.specs.Checksums.{checksumOf}
 use Rattle.codes.specs.Delimiters.{SD1, SD2, SD3, SD4, SC, ED}
 use Rattle.codes.specs.FunctionCodes.{functionCodeOf}
@@ -21,11 +21,11 @@ use Rattle.ground.proofs.PickLaws.{picked, both-first, both-second}
 use Rattle.ground.proofs.RefusalLaws.{refusalOf, refusal-again}
 use Rattle.ground.specs.Part.{part, byteAt}
 use Rattle.ground.specs.Pick.{if}
-use Rattle.telegram.proofs.Answers.{DataStart, data-start, starts-true, Content, content-whole, content-answered, answer-content, code-known, Answered, sd1, sd2, sd3}
+use Rattle.telegram.proofs.Answers.{DataStart, steps-read, data-start, starts-true, Content, content-whole, content-answered, answer-content, code-known, Answered, sd1, sd2, sd3}
 use Rattle.telegram.proofs.ReadingLaws.{reason}
 use Rattle.telegram.specs.Frames.{Framing, frameIs, frameIncomplete, frameRefused, shownFrame, frameAt, framingAt, framingLengths, framingData, framingOf, sealedOf}
-use Rattle.telegram.specs.Leaves.{framingLong, readingOf}
-use Rattle.telegram.specs.Reading.{whole, incomplete, refused, sapsAt, telegramAt, codeOf, frameOf, lengthsOf, dataOf, startsData, readOf}
+use Rattle.telegram.specs.Leaves.{codeOf, frameOf, lengthsOf, dataOf, stepsOf, framingLong, readingOf}
+use Rattle.telegram.specs.Reading.{whole, incomplete, refused, sapsAt, telegramAt, startsData, readOf}
 use Rattle.telegram.specs.declared.frame.Frame.{Frame}
 use Rattle.telegram.specs.declared.frame.FrameFound.{FrameFound}
 use Rattle.telegram.specs.declared.frame.FrameFound.the-variants as frameFound
@@ -150,9 +150,9 @@ module _ (s : List ℕ) where
   pub framed-read :
       (length s ≡ 0 → ⊥) → (byteAt s 0 ≡ SC → ⊥) → (byteAt s 0 ≡ SD4 → ⊥)
       → readOf s ≡ readingOf s (framingOf s)
-  unfolding readOf framingOf
+  unfolding stepsOf framingOf
   framed-read h a b =
-      rw (ne-eqb _ _ h, ne-eqb _ _ a, ne-eqb _ _ b, data-reading)
+      rw (steps-read s, ne-eqb _ _ h, ne-eqb _ _ a, ne-eqb _ _ b, data-reading)
       (sym (reading-pick s (startsData (byteAt s 0)) (framingData s) (frameRefused 1)))
 
 -- ---- a frame that was found

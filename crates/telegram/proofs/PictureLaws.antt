@@ -21,10 +21,12 @@ use Rattle.telegram.proofs.AgreementLaws.{header-same, saps-same}
 use Rattle.telegram.proofs.Answers.{content-whole, Frame, code-known, Answered, confirmation, token-whole, sd1, sd2, sd3}
 use Rattle.telegram.proofs.ByteLaws.{drop-bytes, one-byte, two-more, three-bytes}
 use Rattle.telegram.proofs.ReadingLaws.{reason}
-use Rattle.telegram.specs.Begins.{Bytes, document01, StartOf, withSD1, withSD2, withSD3, DrawsData, Begins}
+use Rattle.telegram.specs.Begins.{Bytes, document01, StartOf, withSD1, withSD2, withSD3, SapMayBe, DrawsData, Begins}
 use Rattle.codes.specs.Delimiters.{SD1, SD2, SD3, SD4, SC, ED}
 use Rattle.telegram.specs.Picture.{addressByte, sapBytes, headWith, framed, tokenBytes, confirmationBytes}
 use Rattle.telegram.specs.Reading.{whole, top, sapAt, headerAt, sapsAt, telegramAt, readOf}
+use Rattle.telegram.specs.declared.header.SapOption.{SapOption}
+use Rattle.telegram.specs.declared.header.SapOption.the-variants.{Some, None}
 use Rattle.telegram.specs.declared.kinds.Telegram.{Telegram}
 use Rattle.telegram.specs.declared.kinds.Telegram.the-variants.{Data}
 
@@ -56,6 +58,11 @@ head-taken (a ∷ b ∷ c ∷ []) fc byte h = absurd (omega arith)
 head-taken (a ∷ b ∷ []) fc byte h = absurd (omega arith)
 head-taken (a ∷ []) fc byte h = absurd (omega arith)
 head-taken [] fc byte h = absurd (omega arith)
+
+-- Any byte is a SAP's to document 01.
+pub any-sap : (o : SapOption) → SapMayBe document01 o
+any-sap (Some sap) = tt
+any-sap None = tt
 
 -- A data telegram that is read from a place, behind a start, is drawn there.
 module _
@@ -94,8 +101,11 @@ module _
         drawn = ap (framed (take at s)) (sym covers);
         startIs = subst (λ k. StartOf document01 k (take at s)) (sym (ap length covers ∙ part-length s at l (omega arith))) start;
         codeIs = read-code (byteAt s (at + 2)) (byte (at + 2)) fc known;
+        dsapIs = any-sap (headerAt s at fc .dsap);
+        ssapIs = any-sap (headerAt s at fc .ssap);
         daSmall = omega arith;
         saSmall = omega arith;
+        sourceIs = tt;
         pduStart = sym place;
         pduLen = simp (length-drop, length-take) (omega arith);
       }
@@ -143,7 +153,7 @@ picture-of {s} byte (token-whole h e) =
     record {
       picture = tokenBytes (byteAt s 1) (byteAt s 2);
       rest = drop 3 s;
-      draws = refl;
+      draws = record { drawn = refl; daIs = tt; saIs = tt };
       bytes = three-bytes s SD4 h e;
       total = refl;
     }

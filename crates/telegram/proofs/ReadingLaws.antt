@@ -1,16 +1,15 @@
--- Laws of reading, for callers: how long a telegram is and where its PDU lies; when an answer is incomplete; that two
--- answers of the reader that are shown alike are alike.
-use Prim.Native.Nat.{ℕ, _+_, _<_, _≤_}
-use mathlib.Core.List.{List, _++_}
+-- Laws of reading, for callers: how long a telegram is and where its PDU lies; that two answers of the reader that are shown alike are alike.
+-- (When an answer is incomplete: AskedLaws; refused: RefusedLaws.)
+use Prim.Native.Nat.{ℕ, _+_, _≤_}
+use mathlib.Core.List.{List}
 use mathlib.Core.Path.{_≡_, refl, sym, _∙_, ap}
 use native.Mathlib.Omega.{arith}
-use lib.ListN.{length, length-append, replicate, length-replicate}
+use lib.ListN.{length}
 use Rattle.ground.proofs.Injective.{injective}
 use Rattle.ground.proofs.RefusalLaws.{refusalOf, refusal-again}
 use Rattle.ground.specs.Refusals.{numberOf}
 use Rattle.ground.specs.declared.refusal.Refusal.{Refusal}
-use Rattle.telegram.proofs.Answers.{sap-missing, sum-differs, end-differs, content-whole, Frame, under-total, code-unknown, code-known, Answered, nothing, confirmation, token-short, token-whole, unknown, data-short, lengths-differ, length-small, sd1, sd2, sd3, answered}
-use Rattle.telegram.proofs.ByteLaws.{append-bytes, zero-bytes}
+use Rattle.telegram.proofs.Answers.{sap-missing, sum-differs, end-differs, content-whole, Frame, code-unknown, code-known, Answered, confirmation, token-whole, unknown, lengths-differ, length-small, sd1, sd2, sd3, answered}
 use Rattle.telegram.specs.Begins.{Bytes}
 use Rattle.telegram.specs.Reading.{Reading, whole, incomplete, refused, headerAt, shownReading, readOf}
 use Rattle.telegram.specs.declared.deserialize.Deserialized.{Deserialized}
@@ -95,38 +94,6 @@ pub addresses-small :
     (s : List ℕ) {d : DataTelegram} {n : ℕ} → readOf s ≡ whole (Data d) n
     → (d .h .da .0 ≤ 127) × (d .h .sa .0 ≤ 127)
 addresses-small s e = seven-bits (reason s e)
-
-short : {s : List ℕ} → Bytes s → Answered s incomplete → length s < 261
-short byte (nothing h) = omega arith
-short byte (token-short h e l) = omega arith
-short byte (data-short h d l) = omega arith
-short byte (sd1 h d (under-total l)) = omega arith
-short byte (sd2 h d q g (under-total l)) = omega (arith, byte 1)
-short byte (sd3 h d (under-total l)) = omega arith
-
--- Only fewer than 261 bytes are incomplete.
-pub incomplete-short : (s : List ℕ) → Bytes s → readOf s ≡ incomplete → length s < 261
-incomplete-short s byte e = short byte (reason s e)
-
--- More bytes, with which a byte string is answered.
-pub record Continued (s : List ℕ) : Type 0 where
-  pub more : List ℕ
-  pub bytes : Bytes more
-  pub settles : readOf (s ++ more) ≡ incomplete → ⊥
-
--- Every byte string is answered with more bytes: so incomplete means that they can still make a telegram or a refusal.
-pub incomplete-continued : (s : List ℕ) → Bytes s → Continued s
-incomplete-continued s byte =
-    record {
-      more = replicate 261 0;
-      bytes = zero-bytes 261;
-      settles = λ e.
-          let short = incomplete-short (s ++ replicate 261 0) (append-bytes s (replicate 261 0) byte (zero-bytes 261)) e in
-          long (simp (length-append, length-replicate) at short);
-    }
-  where
-    long : length s + 261 < 261 → ⊥
-    long h = omega arith
 
 frame-numbered : {s : List ℕ} {at l k : ℕ} → Frame s at l (refused k) → (1 ≤ k) × (k ≤ 7)
 frame-numbered (code-unknown h e) = omega arith

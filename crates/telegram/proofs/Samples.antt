@@ -8,14 +8,15 @@ use Rattle.codes.specs.FunctionCodes.{codeByte, functionCodeOf}
 use Rattle.ground.specs.Part.{byteAt}
 use Rattle.codes.specs.RequestTypes.{requestTypeOf}
 use Rattle.codes.specs.Responses.{stateOf, statusOf}
-use Rattle.telegram.proofs.DrawnLaws.{framed-then, picture-reads, standard-begins}
+use Rattle.telegram.proofs.DrawnLaws.{begins-from, picture-reads, standard-begins}
 use Rattle.telegram.specs.Begins.{standard, StartOf, withSD1, withSD2, withSD3, Begins}
 use Rattle.codes.specs.Delimiters.{SD1, SD2, ED}
 use Rattle.telegram.specs.Picture.{headWith}
-use Rattle.telegram.specs.Reading.{headerAt, sapsAt, contentOf, frameOf, lengthsOf, dataOf, tokenOf, whole, readOf}
-use Rattle.telegram.specs.Samples.{Beyond, BeyondTheStandard}
+use Rattle.telegram.specs.Reading.{headerAt, sapsAt, whole, readOf}
+use Rattle.telegram.specs.Samples.{ReadBeyond, BeyondTheStandard}
 use Rattle.telegram.specs.declared.header.DataTelegramHeader.{DataTelegramHeader}
 use Rattle.telegram.specs.declared.kinds.DataTelegram.{DataTelegram}
+use Rattle.telegram.specs.declared.kinds.Telegram.{Telegram}
 use Rattle.telegram.specs.declared.kinds.Telegram.the-variants.{Data}
 
 -- By the standard, an SD2 telegram's L and fourth byte lie within its bounds.
@@ -41,7 +42,7 @@ module _ {s : List ℕ} {d : DataTelegram} {n : ℕ} (b : Begins standard s (Dat
 
   from-start : s ≡ b .draws .start ++ (covered ++ checksumOf covered ∷ ED ∷ b .rest)
   unfolding covered
-  from-start = b .bytes ∙ ap (λ q. q ++ b .rest) (b .draws .drawn) ∙ framed-then (b .draws .start) (headWith (d .h) (b .draws .code) ++ b .draws .pdu) (b .rest)
+  from-start = begins-from b
 
   sd2-bounds : byteAt s 0 ≡ SD2 → (4 ≤ byteAt s 1) × (byteAt s 1 ≤ 249) × (byteAt s 3 ≡ SD2)
   sd2-bounds e = rw from-start (start-bounds (b .draws .startIs) (covered ++ checksumOf covered ∷ ED ∷ b .rest) (rw from-start at e))
@@ -55,24 +56,29 @@ module _ {s : List ℕ} {d : DataTelegram} {n : ℕ} (b : Begins standard s (Dat
       code ∙ b .draws .codeIs
 
 -- What is read as a telegram that the standard does not draw there, lies beyond the standard.
-beyond : {s : List ℕ} {d : DataTelegram} {n : ℕ} → readOf s ≡ whole (Data d) n → (Begins standard s (Data d) n → ⊥) → Beyond s d n
-beyond {s} {d} {n} read none =
+beyond : {s : List ℕ} {t : Telegram} {n : ℕ} → readOf s ≡ whole t n → (Begins standard s t n → ⊥) → ReadBeyond s t n
+beyond {s} {t} {n} read none =
     record {
       isRead = read;
-      notDrawn = λ t m b.
-          let same : whole t m ≡ whole (Data d) n = sym (picture-reads (standard-begins b)) ∙ read in
-          let kind : t ≡ Data d = cc in
+      notDrawn = λ u m b.
+          let same : whole u m ≡ whole t n = sym (picture-reads (standard-begins b)) ∙ read in
+          let kind : u ≡ t = cc in
           let total : m ≡ n = cc in
           none (rw (kind, total) at b);
     }
 
--- The three points, L at both ends.
+-- Each point, L at both ends, either SAP, either address of a token.
 pub beyond-the-standard : BeyondTheStandard
-unfolding sumOf checksumOf codeByte functionCodeOf requestTypeOf stateOf statusOf headerAt sapsAt contentOf frameOf lengthsOf dataOf tokenOf readOf
+unfolding sumOf checksumOf codeByte functionCodeOf requestTypeOf stateOf statusOf headerAt sapsAt readOf
 beyond-the-standard =
     record {
       fourthByte = beyond refl (λ b. omega (arith, sd2-bounds b refl));
       lengthThree = beyond refl (λ b. omega (arith, sd2-bounds b refl));
       length250 = beyond refl (λ b. omega (arith, sd2-bounds b refl));
       bit7 = beyond refl (λ b. omega (arith, sd1-code b refl));
+      dsap64 = beyond refl (λ b. omega (arith, b .draws .dsapIs));
+      ssap64 = beyond refl (λ b. omega (arith, b .draws .ssapIs));
+      source127 = beyond refl (λ b. omega (arith, b .draws .sourceIs));
+      tokenTo127 = beyond refl (λ b. omega (arith, b .draws .daIs));
+      tokenFrom127 = beyond refl (λ b. omega (arith, b .draws .saIs));
     }

@@ -9,7 +9,7 @@ use native.Mathlib.Omega.{arith}
 use borrow.Author.Tests.{eq-eqb, ne-eqb}
 use lib.ListN.{length, drop, length-drop}
 use lib.Seq.{drop-drop}
-use Rattle.telegram.specs.Reading.{Reading, tokenOf, readOf}
+use Rattle.telegram.specs.Reading.{Reading, readOf}
 use Rattle.telegram.specs.Reading as reading
 use Rattle.telegram.specs.Stream.{Event, Ending, done, incomplete, refused, Stream, endsAt, followedBy, streamRead, streamFrom, streamAt, streamOf, bytesIn, Chain, noMore, oneMore, Ends, atEnd, cut, stopped, StreamIs}
 use Rattle.telegram.specs.declared.kinds.Telegram.{Telegram}
@@ -169,5 +169,5 @@ token at da sa = record { at = at; telegram = Token (record { da = record { 0 = 
 pub stream-samples : (streamOf (0xE5 ∷ 0xDC ∷ 0x05 ∷ 0x02 ∷ []) ≡ followedBy (ack 0) (followedBy (token 1 5 2) (endsAt 4 done)))
     × (streamOf (0xE5 ∷ 0xDC ∷ 0x05 ∷ 0x02 ∷ 0xDC ∷ 0x05 ∷ []) ≡ followedBy (ack 0) (followedBy (token 1 5 2) (endsAt 4 incomplete)))
     × (streamOf (0xE5 ∷ 0xDC ∷ 0x05 ∷ 0x02 ∷ 0x00 ∷ 0xE5 ∷ []) ≡ followedBy (ack 0) (followedBy (token 1 5 2) (endsAt 4 (refused 1))))
-unfolding tokenOf readOf streamFrom
+unfolding readOf streamFrom
 stream-samples = (refl, refl, refl)

@@ -1,4 +1,4 @@
--- What a writer writes is a picture by the standard, `written-draws-standard`, and so is read back: `read-after-write`, `pdu-after-write`.
+-- What a writer writes is a picture under the rules of what is written, `written-draws-written`, and so is read back: `read-after-write`, `pdu-after-write`.
 use Prim.Native.Nat.{ℕ, _≤_}
 use mathlib.Core.List.{List, [], _∷_, _++_, append-assoc}
 use mathlib.Core.Path.{_≡_, refl, sym, _∙_, ap}
@@ -13,11 +13,14 @@ use Rattle.codes.specs.Checksums.{checksumOf}
 use Rattle.codes.specs.FunctionCodes.{codeByte, asWritten}
 use Rattle.ground.specs.Part.{byteAt, shownPart}
 use Rattle.telegram.proofs.DrawnLaws.{picture-reads}
-use Rattle.telegram.specs.Begins.{Rules, standard, document01, StartOf, withSD1, withSD2, withSD3, DrawsData, AsWritten}
+use Rattle.telegram.proofs.PictureLaws.{any-sap}
+use Rattle.telegram.specs.Begins.{Rules, document01, written, StartOf, withSD1, withSD2, withSD3, SapMayBe, DrawsData, AsWritten}
 use Rattle.codes.specs.Delimiters.{SD2, ED}
 use Rattle.telegram.specs.Picture.{headWith, headBytes, atFront, coveredBytes, lengthByte, startBytes, framed, telegramBytes, tokenBytes, confirmationBytes}
 use Rattle.telegram.specs.Reading.{whole, readOf}
 use Rattle.telegram.specs.declared.header.DataTelegramHeader.{DataTelegramHeader}
+use Rattle.telegram.specs.declared.header.SapOption.{SapOption}
+use Rattle.telegram.specs.declared.header.SapOption.the-variants.{Some, None}
 use Rattle.telegram.specs.declared.kinds.DataTelegram.{DataTelegram}
 use Rattle.telegram.specs.declared.kinds.Telegram.the-variants.{Data, Token, ShortConfirmation}
 use Rattle.telegram.specs.declared.kinds.TokenTelegram.{TokenTelegram}
@@ -47,6 +50,10 @@ pdu-drawn {d = d} {picture = picture} rest draws =
     let all : picture ++ rest ≡ draws .start ++ head ++ (draws .pdu ++ behind) = ap (λ q. q ++ rest) (draws .drawn) ∙ framed-parts (draws .start) head (draws .pdu) rest in
     rw all (shown-between (d .pdu) (draws .start ++ head) (draws .pdu) behind (draws .pduStart) (draws .pduLen))
 
+written-sap : (o : SapOption) → SapMayBe written o
+written-sap (Some sap) = tt
+written-sap None = tt
+
 counts-head : (h : DataTelegramHeader) (pdu : List ℕ) → 3 ≤ lengthByte h pdu
 unfolding lengthByte coveredBytes headBytes
 counts-head h pdu = omega arith
@@ -54,9 +61,10 @@ counts-head h pdu = omega arith
 module _ (h : DataTelegramHeader) (pdu : List ℕ) (da : h .da .0 ≤ 127) (sa : h .sa .0 ≤ 127) where
   written-draws :
       {rules : Rules} → StartOf rules (lengthByte h pdu) (startBytes (lengthByte h pdu)) → rules .codeMayBe (h .fc) (codeByte (h .fc))
+      → SapMayBe rules (h .dsap) → SapMayBe rules (h .ssap) → rules .sourceMayBe (h .sa .0)
       → DrawsData rules (atFront h pdu) (telegramBytes h pdu)
   unfolding telegramBytes coveredBytes headBytes lengthByte
-  written-draws start code =
+  written-draws start code dsap ssap source =
       record {
         start = startBytes (lengthByte h pdu);
         code = codeByte (h .fc);
@@ -64,19 +72,25 @@ module _ (h : DataTelegramHeader) (pdu : List ℕ) (da : h .da .0 ≤ 127) (sa :
         drawn = refl;
         startIs = start;
         codeIs = code;
+        dsapIs = dsap;
+        ssapIs = ssap;
         daSmall = da;
         saSmall = sa;
+        sourceIs = source;
         pduStart = refl;
         pduLen = refl;
       }
 
-  -- A telegram that is written is drawn so by the standard, where its length byte is at most 249.
-  pub written-draws-standard : lengthByte h pdu ≤ 249 → DrawsData standard (atFront h pdu) (telegramBytes h pdu)
-  written-draws-standard fits =
+  -- A telegram that is written is drawn so under the rules of what is written, where its length byte is at most 249.
+  pub written-draws-written : lengthByte h pdu ≤ 249 → DrawsData written (atFront h pdu) (telegramBytes h pdu)
+  written-draws-written fits =
       written-draws (written-start (lengthByte h pdu) (λ not3. (omega (arith, counts-head h pdu), fits)) refl) refl
+      (written-sap (h .dsap)) (written-sap (h .ssap)) tt
 
   read-draws : DrawsData document01 (atFront h pdu) (telegramBytes h pdu)
-  read-draws = written-draws (written-start (lengthByte h pdu) (λ not3. counts-head h pdu) tt) asWritten
+  read-draws =
+      written-draws (written-start (lengthByte h pdu) (λ not3. counts-head h pdu) tt) asWritten
+      (any-sap (h .dsap)) (any-sap (h .ssap)) tt
 
   -- Reading what was written gives the header back and where the PDU stands, whatever follows it.
   pub read-after-write :
@@ -106,7 +120,7 @@ token-after-write t rest =
     (record {
       picture = tokenBytes (t .da .0) (t .sa .0);
       rest = rest;
-      draws = refl;
+      draws = record { drawn = refl; daIs = tt; saIs = tt };
       bytes = refl;
       total = refl;
     })

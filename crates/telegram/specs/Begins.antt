@@ -1,8 +1,8 @@
--- "These bytes begin with this telegram", `Begins`: the standard's picture as a relation, which knows nothing of how a reader goes
--- about it, with the three points named in which document 01, as the Rust, takes more than the standard draws (`standard`, `document01`).
+-- "These bytes begin with this telegram", `Begins`: a telegram's picture as a relation, which knows nothing of how a reader goes about it,
+-- under the rules of the standard (`standard`) and the wider ones of document 01 (`document01`). What is said of the standard here is what people
+-- of the trade know of it; its text is not at hand. Points.antt names each point in which document 01 is wider.
 use Prim.Native.Nat.{ℕ, _+_, _<_, _≤_}
 use mathlib.Core.List.{List, [], _∷_, _++_}
-use mathlib.Core.Logic.{_⊎_}
 use mathlib.Core.Path.{_≡_}
 use lib.ListN.{length}
 use Rattle.codes.specs.FunctionCodes.{codeByte, CodeRead}
@@ -10,11 +10,14 @@ use Rattle.ground.specs.Part.{byteAt}
 use Rattle.codes.specs.declared.function_code.FunctionCode.{FunctionCode}
 use Rattle.codes.specs.Delimiters.{SD1, SD2, SD3}
 use Rattle.telegram.specs.Picture.{headWith, startBytes, framed, tokenBytes, confirmationBytes}
+use Rattle.telegram.specs.declared.header.SapOption.{SapOption}
+use Rattle.telegram.specs.declared.header.SapOption.the-variants.{Some, None}
 use Rattle.telegram.specs.declared.kinds.DataTelegram.{DataTelegram}
 use Rattle.telegram.specs.declared.kinds.Telegram.{Telegram}
 use Rattle.telegram.specs.declared.kinds.Telegram.the-variants.{Data, Token, ShortConfirmation}
+use Rattle.telegram.specs.declared.kinds.TokenTelegram.{TokenTelegram}
 
--- What may stand in three places of a data telegram.
+-- What may stand in a telegram, place by place.
 pub record Rules : Type 1 where
   -- the length byte of an SD2 telegram
   pub lengthMayBe : ℕ → Type 0
@@ -22,31 +25,62 @@ pub record Rules : Type 1 where
   pub fourthMayBe : ℕ → Type 0
   -- the byte of a function code
   pub codeMayBe : FunctionCode → ℕ → Type 0
+  -- the byte of a SAP
+  pub sapMayBe : ℕ → Type 0
+  -- the source address of a data telegram
+  pub sourceMayBe : ℕ → Type 0
+  -- an address of a token
+  pub tokenMayBe : ℕ → Type 0
 
--- The standard: L from 4 to 249, the delimiter again, and bit 7 of a response clear.
+-- The standard: L from 4 to 249, the delimiter again, and bit 7 of a response clear. An address extension that is a SAP is an octet below 64: above, it
+-- is a region or segment address, or one more extension follows. Stations have the addresses 0 to 126; 127, the global address, is a
+-- destination only, and none of a token's.
 abbrev pub standard : Rules
 standard =
     record {
       lengthMayBe = λ l. (4 ≤ l) × (l ≤ 249);
       fourthMayBe = λ b. b ≡ SD2;
       codeMayBe = λ fc b. b ≡ codeByte fc;
+      sapMayBe = λ b. b < 64;
+      sourceMayBe = λ a. a ≤ 126;
+      tokenMayBe = λ a. a ≤ 126;
     }
 
--- Document 01, in three points more: L of 3 and above 249 too; "an SD2 telegram's fourth byte is never looked at"; and
--- bit 7 of a response either way.
+-- Document 01, as the Rust, reads more in six points: L of 3 and above 249 too; "an SD2 telegram's fourth byte is never looked at";
+-- bit 7 of a response either way; any byte for a SAP; 127 as a source; and a token's addresses "whole bytes".
 abbrev pub document01 : Rules
-document01 = record { lengthMayBe = λ l. 3 ≤ l; fourthMayBe = λ b. Unit; codeMayBe = CodeRead }
+document01 =
+    record {
+      lengthMayBe = λ l. 3 ≤ l;
+      fourthMayBe = λ b. Unit;
+      codeMayBe = CodeRead;
+      sapMayBe = λ b. Unit;
+      sourceMayBe = λ a. Unit;
+      tokenMayBe = λ a. Unit;
+    }
+
+-- What a writer writes is the standard's in the three points of its own; SAPs and addresses are its caller's, and any byte of theirs is taken.
+abbrev pub written : Rules
+written =
+    record {
+      lengthMayBe = λ l. (4 ≤ l) × (l ≤ 249);
+      fourthMayBe = λ b. b ≡ SD2;
+      codeMayBe = λ fc b. b ≡ codeByte fc;
+      sapMayBe = λ b. Unit;
+      sourceMayBe = λ a. Unit;
+      tokenMayBe = λ a. Unit;
+    }
+
+-- A SAP, where there is one, may be so.
+abbrev pub SapMayBe : Rules → SapOption → Type 0
+SapMayBe rules (Some sap) = rules .sapMayBe (sap .0)
+SapMayBe rules None = Unit
 
 -- What stands before da, where l bytes stand from there through the PDU.
 pub data StartOf (rules : Rules) : ℕ → List ℕ → Type 0 where
   withSD1 : StartOf rules 3 (SD1 ∷ [])
   withSD3 : StartOf rules 11 (SD3 ∷ [])
   withSD2 : {l fourth : ℕ} → rules .lengthMayBe l → rules .fourthMayBe fourth → StartOf rules l (SD2 ∷ l ∷ l ∷ fourth ∷ [])
-
--- A start that document 01 takes and the standard does not: an SD2 telegram's L, or its fourth byte.
-pub data StartBeyond : List ℕ → Type 0 where
-  lengthOutside : {l fourth : ℕ} → (l < 4) ⊎ (249 < l) → StartBeyond (SD2 ∷ l ∷ l ∷ fourth ∷ [])
-  fourthNot68 : {l fourth : ℕ} → (fourth ≡ SD2 → ⊥) → StartBeyond (SD2 ∷ l ∷ l ∷ fourth ∷ [])
 
 -- These bytes are a data telegram: its header and a PDU, framed; addresses have seven bits; and the telegram says where
 -- its PDU stands.
@@ -60,8 +94,11 @@ pub record DrawsData (rules : Rules) (d : DataTelegram) (picture : List ℕ) : T
   -- what may stand in them
   pub startIs : StartOf rules (length (headWith (d .h) code ++ pdu)) start
   pub codeIs : rules .codeMayBe (d .h .fc) code
+  pub dsapIs : SapMayBe rules (d .h .dsap)
+  pub ssapIs : SapMayBe rules (d .h .ssap)
   pub daSmall : d .h .da .0 ≤ 127
   pub saSmall : d .h .sa .0 ≤ 127
+  pub sourceIs : rules .sourceMayBe (d .h .sa .0)
   -- where the PDU stands
   pub pduStart : d .pdu .start ≡ length (start ++ headWith (d .h) code)
   pub pduLen : d .pdu .len ≡ length pdu
@@ -71,10 +108,16 @@ pub record AsWritten {rules : Rules} {d : DataTelegram} {picture : List ℕ} (dr
   pub startWritten : draws .start ≡ startBytes (length (headWith (d .h) (draws .code) ++ draws .pdu))
   pub codeWritten : draws .code ≡ codeByte (d .h .fc)
 
+-- These bytes are a token: its two addresses, whole bytes.
+pub record DrawsToken (rules : Rules) (t : TokenTelegram) (picture : List ℕ) : Type 0 where
+  pub drawn : picture ≡ tokenBytes (t .da .0) (t .sa .0)
+  pub daIs : rules .tokenMayBe (t .da .0)
+  pub saIs : rules .tokenMayBe (t .sa .0)
+
 -- These bytes are this telegram.
 abbrev pub Draws : Rules → Telegram → List ℕ → Type 0
 Draws rules (Data d) picture = DrawsData rules d picture
-Draws rules (Token t) picture = picture ≡ tokenBytes (t .da .0) (t .sa .0)
+Draws rules (Token t) picture = DrawsToken rules t picture
 Draws rules ShortConfirmation picture = picture ≡ confirmationBytes
 
 -- These bytes begin with this telegram, whose total length is n; anything may follow it.

@@ -2,7 +2,7 @@
 -- the later steps judge. Read from `framingOf` back, then `sealedOf`. (Reading.antt has all steps; that the reader's answer is made
 -- from the frame is `framed-read` in proofs/FrameLaws.antt.)
 use Prim.Native.Nat.{ℕ, _+_}
-use mathlib.Core.Bool.{Bool, true, false, not}
+use mathlib.Core.Bool.{Bool, false, not}
 use mathlib.Core.List.{List}
 use lib.Dec.{eqb, ltb}
 use lib.ListN.{length}

@@ -5,8 +5,13 @@ pub mod Picture
 pub mod Begins
 -- document 01's steps of reading, with their refusals
 pub mod Reading
+-- which bytes are refused and why, and how many an incomplete string asks for: what the table means
+pub mod Refused
+pub mod Asked
 -- the same up to step 3: where a data telegram stands, and whether it is sealed
 pub mod Frames
+-- each point in which document 01 is wider than the standard
+pub mod Points
 -- the small questions that the Rust answers of a telegram
 pub mod Questions
 -- the smallest inputs that are read beyond the standard

@@ -1,12 +1,13 @@
--- Document 01, "Reading a telegram": the answer to every byte string, in its order and with its numbers. Read from the end, `readOf`, back.
+-- Document 01, "Reading a telegram": the answer to every byte string, `readOf`, as a table in the order in which the document is read. It is what a
+-- reader answers, not how one goes about it: our reader's own steps stand in Leaves.antt, and a law joins the two.
 use Prim.Native.Nat.{ℕ, _+_, _-_, _%_}
-use mathlib.Core.Bool.{Bool, true, false, not}
-use mathlib.Core.List.{List}
+use mathlib.Core.Bool.{Bool, true, false, not, _&&_}
+use mathlib.Core.List.{List, [], _∷_}
 use lib.Dec.{eqb, leb, ltb}
 use lib.ListN.{length}
 use Rattle.codes.specs.Checksums.{checksumOf}
 use Rattle.ground.specs.Bits.{digit}
-use Rattle.codes.specs.FunctionCodes.{functionCodeOf}
+use Rattle.codes.specs.FunctionCodes.{functionCodeOf, isRead}
 use Rattle.ground.specs.Part.{part, byteAt}
 use Rattle.ground.specs.Pick.{if}
 use Rattle.ground.specs.Refusals.{numberOf}
@@ -68,49 +69,84 @@ telegramAt s at l fc =
       pdu = record { start = at + 3 + sapsAt s at; len = l - (3 + sapsAt s at) };
     }
 
--- "5. none left in the content: 5. 6. checksum: 6. 7. end delimiter: 7"
-unfoldable pub contentOf : List ℕ → ℕ → ℕ → FunctionCode → Reading
-contentOf s at l fc =
-    if (ltb l (3 + sapsAt s at)) (refused 5)
-    (if (not (eqb (byteAt s (at + l)) (checksumOf (part s at (at + l))))) (refused 6)
-    (if (not (eqb (byteAt s (at + l + 1)) ED)) (refused 7)
-    (whole (Data (telegramAt s at l fc)) (at + l + 2))))
-
--- "4. function code: 4"
-abbrev pub codeOf : List ℕ → ℕ → ℕ → FunctionCodeFound → Reading
-codeOf s at l (codeFound.Is fc) = contentOf s at l fc
-codeOf s at l codeFound.Nothing = refused 4
-
--- "3. under the total: incomplete": the checksum and the end delimiter stand behind what the length counts
-unfoldable pub frameOf : List ℕ → ℕ → ℕ → Reading
-frameOf s at l = if (ltb (length s) (at + l + 2)) incomplete (codeOf s at l (functionCodeOf (byteAt s (at + 2))))
-
--- "2. SD2: second and third byte differ: 2; length byte L below 3: 3"
-unfoldable pub lengthsOf : List ℕ → Reading
-lengthsOf s =
-    if (not (eqb (byteAt s 1) (byteAt s 2))) (refused 2) (if (ltb (byteAt s 1) 3) (refused 3) (frameOf s 4 (byteAt s 1)))
-
--- "1. under 6 bytes: incomplete"; "Totals: SD1 6, SD3 14, SD2 L + 6"
-unfoldable pub dataOf : List ℕ → Reading
-dataOf s =
-    if (ltb (length s) 6) incomplete
-    (if (eqb (byteAt s 0) SD1) (frameOf s 1 3) (if (eqb (byteAt s 0) SD2) (lengthsOf s) (frameOf s 1 11)))
+-- the same as an answer, under the code that its byte is read as; checksum and end delimiter stand behind the l bytes
+abbrev pub dataRead : List ℕ → ℕ → ℕ → FunctionCodeFound → Reading
+dataRead s at l (codeFound.Is fc) = whole (Data (telegramAt s at l fc)) (at + l + 2)
+dataRead s at l codeFound.Nothing = refused 4
 
 -- "token, da then sa, whole bytes"
 abbrev pub tokenAt : List ℕ → TokenTelegram
 tokenAt s = record { da = record { 0 = byteAt s 1 }; sa = record { 0 = byteAt s 2 } }
 
--- "SD4: under 3 bytes incomplete, else token"
-unfoldable pub tokenOf : List ℕ → Reading
-tokenOf s = if (ltb (length s) 3) incomplete (whole (Token (tokenAt s)) 3)
+-- ---- where things stand in a data telegram
+
+-- whether the first byte is this one
+abbrev pub starts : List ℕ → ℕ → Bool
+starts s b = eqb (byteAt s 0) b
 
 -- whether a first byte is that of a data telegram
 abbrev pub startsData : ℕ → Bool
 startsData b = if (eqb b SD1) true (if (eqb b SD2) true (eqb b SD3))
 
--- "From the first byte: nothing, incomplete. SC: 1 byte. SD4: ... Others unknown: 1. SD1, SD2, SD3"
+-- da stands behind the delimiter; in SD2 behind the length and the delimiter, each twice
+abbrev pub daAt : List ℕ → ℕ
+daAt s = if (starts s SD2) 4 1
+
+-- how many bytes there are from da through the PDU: da, sa, fc, and "content after da, sa, fc: 0, 8 or L - 3 bytes"
+abbrev pub coveredAt : List ℕ → ℕ
+coveredAt s = if (starts s SD1) 3 (if (starts s SD2) (byteAt s 1) 11)
+
+-- "Totals: SD1 6, SD3 14, SD2 L + 6": the checksum and the end delimiter stand behind what is covered
+abbrev pub totalAt : List ℕ → ℕ
+totalAt s = daAt s + coveredAt s + 2
+
+-- the byte of the function code
+abbrev pub codeAt : List ℕ → ℕ
+codeAt s = byteAt s (daAt s + 2)
+
+-- the bytes that the checksum sums: "from da through the PDU"
+abbrev pub summedAt : List ℕ → List ℕ
+summedAt s = part s (daAt s) (daAt s + coveredAt s)
+
+-- ---- the table
+
+-- a line: where its test holds, and no test above it, this is the answer
+pub record Line : Type 0 where
+  pub test : Bool
+  pub answer : Reading
+
+infix 25 _answers_
+abbrev pub _answers_ : Bool → Reading → Line
+test answers answer = record { test = test; answer = answer }
+
+-- what the first line whose test holds answers; else what is left over
+abbrev pub firstLine : List Line → Reading → Reading
+firstLine [] leftOver = leftOver
+firstLine (line ∷ more) leftOver = if (line .test) (line .answer) (firstLine more leftOver)
+
 unfoldable pub readOf : List ℕ → Reading
 readOf s =
-    if (eqb (length s) 0) incomplete
-    (if (eqb (byteAt s 0) SC) (whole ShortConfirmation 1)
-    (if (eqb (byteAt s 0) SD4) (tokenOf s) (if (startsData (byteAt s 0)) (dataOf s) (refused 1))))
+    firstLine
+    -- "From the first byte: nothing, incomplete. SC: 1 byte. SD4: under 3 bytes incomplete, else token … Others unknown: 1."
+    ((eqb (length s) 0 answers incomplete)
+    ∷ (starts s SC answers whole ShortConfirmation 1)
+    ∷ ((starts s SD4 && ltb (length s) 3) answers incomplete)
+    ∷ (starts s SD4 answers whole (Token (tokenAt s)) 3)
+    ∷ (not (startsData (byteAt s 0)) answers refused 1)
+    -- "SD1, SD2, SD3, in this order: 1. under 6 bytes: incomplete"
+    ∷ (ltb (length s) 6 answers incomplete)
+    -- "2. SD2: second and third byte differ: 2; length byte L below 3: 3"
+    ∷ ((starts s SD2 && not (eqb (byteAt s 1) (byteAt s 2))) answers refused 2)
+    ∷ ((starts s SD2 && ltb (byteAt s 1) 3) answers refused 3)
+    -- "3. under the total: incomplete"
+    ∷ (ltb (length s) (totalAt s) answers incomplete)
+    -- "4. function code: 4"
+    ∷ (not (isRead (functionCodeOf (codeAt s))) answers refused 4)
+    -- "5. da with top bit needs a DSAP byte, sa with top bit then an SSAP byte; none left in the content: 5"
+    ∷ (ltb (coveredAt s) (3 + sapsAt s (daAt s)) answers refused 5)
+    -- "6. checksum: 6", the byte behind what is covered
+    ∷ (not (eqb (byteAt s (daAt s + coveredAt s)) (checksumOf (summedAt s))) answers refused 6)
+    -- "7. end delimiter: 7", the byte behind that
+    ∷ (not (eqb (byteAt s (daAt s + coveredAt s + 1)) ED) answers refused 7)
+    ∷ [])
+    (dataRead s (daAt s) (coveredAt s) (functionCodeOf (codeAt s)))

@@ -1,5 +1,5 @@
 -- The reader and the picture, joined: `read-exactly`; the points in which document 01 is wider than the standard: `only-these-points`,
--- `beyond-the-standard`; and `same-telegram`, `one-telegram`, `written-back-exactly`.
+-- `beyond-not-standard`; and `same-telegram`, `one-telegram`, `written-back-exactly`.
 use Prim.Native.Nat.{ℕ, _+_, _<_, _≤_}
 use mathlib.Core.Bool.{Bool, true, false}
 use mathlib.Core.List.{List, [], _∷_, _++_}
@@ -175,12 +175,12 @@ token-not c (daBeyond beyond) = omega (arith, beyond, c .draws .daIs)
 token-not c (saBeyond beyond) = omega (arith, beyond, c .draws .saIs)
 
 -- And where one holds, it is none of the standard's.
-pub beyond-the-standard :
+pub beyond-not-standard :
     (t : Telegram) {s : List ℕ} {n m : ℕ} (b : Begins document01 s t n) → Beyond t (b .picture) (b .draws) → Begins standard s t m
     → ⊥
-beyond-the-standard (Data d) b beyond c = data-not b c beyond
-beyond-the-standard (Token t) b beyond c = token-not c beyond
-beyond-the-standard ShortConfirmation b beyond c = beyond
+beyond-not-standard (Data d) b beyond c = data-not b c beyond
+beyond-not-standard (Token t) b beyond c = token-not c beyond
+beyond-not-standard ShortConfirmation b beyond c = beyond
 
 -- A telegram's PDU, as the reader shows it, is the picture's.
 pub read-pdu :

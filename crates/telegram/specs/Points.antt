@@ -1,6 +1,6 @@
 -- The points in which document 01, as the Rust, reads more than the standard draws: `Beyond`. There is no other, and a telegram of which one
 -- holds is none of the standard's there: `only-these-points` and
--- `beyond-the-standard` of proofs/Theorems.antt.
+-- `beyond-not-standard` of proofs/Theorems.antt.
 use Prim.Native.Nat.{ℕ, _+_, _<_}
 use mathlib.Core.List.{List, [], _∷_, _++_}
 use mathlib.Core.Logic.{_⊎_}

@@ -6,8 +6,8 @@
 
 #include "koyandefa.h"
 
-static koy_guarded_initiator head_end;
-static koy_guarded_responder cabinet;
+static koy_head_end head_end;
+static koy_cabinet cabinet;
 
 /* the stamps: a count that is stepped at each event will do where both ends are in one program */
 static size_t events;
@@ -42,13 +42,13 @@ static void on_the_line(const char *who, size_t length)
 static void head_end_sends(koy_head_end_told told)
 {
     want("head end", told.code, KOY_SENT);
-    on_the_line("head end", told.length);
+    on_the_line("head end", told.to_send);
 }
 
 static void cabinet_sends(koy_cabinet_told told)
 {
     want("cabinet", told.code, KOY_SENT);
-    on_the_line(" cabinet", told.length);
+    on_the_line(" cabinet", told.to_send);
 }
 
 static koy_cabinet_told cabinet_hears(void)

@@ -1,20 +1,20 @@
 /* Koyandefa: telegrams, the station list, diagnostics and the order link of PROFIBUS, as proved functions.
  *
  * This file has the numbers and the 34 calls as the archives export them. koyandefa_named.h, which it includes at its end, has what
- * a driver calls: the same calls with named answers (koy_telegram_read gives kind, length, da, sa ... where koy_read fills an array
- * of nine), with addresses that cannot be given in the wrong order, and with the text of every code. Read the numbers here, then
- * that file, and of the calls here what they answer. docs/DRIVERS.md says what a driver owes.
+ * a driver calls: the same calls with named answers (koy_telegram_read gives kind, length, sa, da ... where koy_read fills an array
+ * of nine), with names for addresses, SAPs and stamps, which the plain calls take as bare numbers and da and sa in both orders, and
+ * with the text of every code. Read this head and the numbers, then that file; of the calls here, the notes on the order link.
+ * docs/DRIVERS.md says what a driver owes; bindings/c/lossy_line.c and noisy_stream.c are drivers.
  *
- * Linking: `pkg-config --cflags --libs koyandefa` where it was installed (bindings/c/install PREFIX). In the tree libexports.a, and for the
- * order link, koy_guarded_..., koy_initiator_... and koy_responder_..., libexports_link.a (bindings/archives makes both); neither
- * needs the other.
+ * Linking: `pkg-config --cflags --libs koyandefa` where it was installed (bindings/c/install PREFIX). In the tree libexports.a, and
+ * for the order link libexports_link.a (bindings/archives makes both); neither needs the other.
  *
  * Machine: x86-64 alone, as the archives are; C99, C11, or C++ from C++17 on. The calls allocate nothing, keep no state of their
  * own, call nothing but memcpy and memset, and return from every call. Each is proved to answer every number, every length and
- * every content of the bytes that it is lent as document 01 says.
+ * every content of the bytes that it is lent as document 01 says, the guarded ones as is said below.
  *
- * Stack below the caller, in bytes: the station list 480 at most, the guarded link 184, the plain link 168, settings 136, reading
- * and writing 64, diagnostics 0 (docs/SPEED.md has every call).
+ * Stack that a call takes, in bytes: the station list 480 at most, the guarded link 184, the plain link 168, settings 136, reading
+ * and writing 64, diagnostics 0 (docs/SPEED.md has every call). A named form takes up to 112 more, by gcc 12.2 with -O2.
  *
  * Threads: any call from any number of threads at once, but a state that a call writes is lent to one call at a time: one lock for
  * each record, or one thread.
@@ -38,8 +38,11 @@
 #include <stddef.h>
 #include <stdint.h>
 
+#ifndef __x86_64__
+#error "koyandefa: the archives are for x86-64"
+#endif
 #if SIZE_MAX != UINT64_MAX
-#error "koyandefa: the archives are for x86-64, where size_t has 64 bits"
+#error "koyandefa: size_t must have 64 bits"
 #endif
 
 /* the version of this header and of the archives that it goes with */
@@ -55,6 +58,8 @@ extern "C" {
 /* ---- codes ---- */
 
 #define KOY_DONE 0
+/* the same number, from an end of the link: nothing to do */
+#define KOY_NOTHING 0
 /* refusals of document 01 (koy_code_text has its words); no call here gives 15 or 22 */
 #define KOY_UNKNOWN_START 1
 #define KOY_LENGTHS_DIFFER 2

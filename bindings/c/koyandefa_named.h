@@ -371,9 +371,12 @@ static inline koy_answer koy_answer_to(size_t number, const uint8_t *bytes, size
 
 /* ---- the head end ---- */
 
+/* the record and its guard, one for each link: never copied back or loaded */
+typedef koy_guarded_initiator koy_head_end;
+
 typedef struct {
     uint8_t code;
-    size_t length;  /* KOY_SENT: send so many bytes of buf */
+    size_t to_send; /* KOY_SENT: send so many bytes of buf */
     koy_part reply; /* KOY_CONFIRMED: a part of the heard bytes */
     uint8_t tries;  /* KOY_CONFIRMED, KOY_NOT_SENT, KOY_UNKNOWN: the telegrams written in the order's last phase */
 } koy_head_end_told;
@@ -383,7 +386,7 @@ static inline koy_head_end_told koy_head_end_named(uint8_t code, const size_t to
 {
     koy_head_end_told named = {code, 0, {heard, 0, 0}, 0};
     if (code == KOY_SENT)
-        named.length = told[0];
+        named.to_send = told[0];
     if (code == KOY_CONFIRMED)
         named.reply = koy_part_of(heard, told[0], told[1]);
     if (code == KOY_CONFIRMED || code == KOY_NOT_SENT || code == KOY_UNKNOWN)
@@ -392,13 +395,13 @@ static inline koy_head_end_told koy_head_end_named(uint8_t code, const size_t to
 }
 
 /* A link that is closed: the first call, and the one after a loss of power. 18, 19. */
-static inline uint8_t koy_head_end_new(koy_guarded_initiator *end, size_t now, koy_settings settings)
+static inline uint8_t koy_head_end_new(koy_head_end *end, size_t now, koy_settings settings)
 {
     return koy_guarded_initiator_new(end->state, end->last, settings.own, settings.peer, settings.tries, now);
 }
 
 /* Submits an order of 1 to KOY_LONGEST_ORDER bytes, which is kept in the record. KOY_SENT; 10, 17, 16 in this order. */
-static inline koy_head_end_told koy_head_end_submit(koy_guarded_initiator *end, size_t now, const uint8_t *order,
+static inline koy_head_end_told koy_head_end_submit(koy_head_end *end, size_t now, const uint8_t *order,
                                                     size_t order_len, uint8_t *buf, size_t buf_len)
 {
     size_t told[3] = {0, 0, 0};
@@ -407,16 +410,16 @@ static inline koy_head_end_told koy_head_end_submit(koy_guarded_initiator *end, 
     return koy_head_end_named(code, told, NULL);
 }
 
-/* Nothing was heard in time. KOY_SENT, KOY_NOT_SENT, KOY_UNKNOWN, or 0, nothing is pending; 10. */
-static inline koy_head_end_told koy_head_end_silence(koy_guarded_initiator *end, size_t now, uint8_t *buf, size_t buf_len)
+/* Nothing was heard in time. KOY_SENT, KOY_NOT_SENT, KOY_UNKNOWN, or KOY_NOTHING, none is pending; 10. */
+static inline koy_head_end_told koy_head_end_silence(koy_head_end *end, size_t now, uint8_t *buf, size_t buf_len)
 {
     size_t told[3] = {0, 0, 0};
     uint8_t code = koy_guarded_initiator_silence(end->state, end->last, now, koy_lent_room(buf), buf_len, told);
     return koy_head_end_named(code, told, NULL);
 }
 
-/* KOY_SENT, KOY_CONFIRMED, or 0, keep waiting; 10. */
-static inline koy_head_end_told koy_head_end_hear(koy_guarded_initiator *end, size_t now, koy_heard heard, uint8_t *buf,
+/* KOY_SENT, KOY_CONFIRMED, or KOY_NOTHING, keep waiting; 10. */
+static inline koy_head_end_told koy_head_end_hear(koy_head_end *end, size_t now, koy_heard heard, uint8_t *buf,
                                                   size_t buf_len)
 {
     size_t told[3] = {0, 0, 0};
@@ -425,8 +428,8 @@ static inline koy_head_end_told koy_head_end_hear(koy_guarded_initiator *end, si
     return koy_head_end_named(code, told, heard.bytes);
 }
 
-/* After a restart with the record at hand. KOY_NOT_SENT, KOY_UNKNOWN, or 0, nothing was pending. */
-static inline koy_head_end_told koy_head_end_restart(koy_guarded_initiator *end)
+/* After a restart with the record at hand. KOY_NOT_SENT, KOY_UNKNOWN, or KOY_NOTHING, none was pending. */
+static inline koy_head_end_told koy_head_end_restart(koy_head_end *end)
 {
     size_t told[3] = {0, 0, 0};
     uint8_t code = koy_initiator_restart(end->state, told);
@@ -434,7 +437,7 @@ static inline koy_head_end_told koy_head_end_restart(koy_guarded_initiator *end)
 }
 
 /* KOY_HEAD_END_...: an order is pending in the last three. */
-static inline uint8_t koy_head_end_phase(const koy_guarded_initiator *end)
+static inline uint8_t koy_head_end_phase(const koy_head_end *end)
 {
     uint8_t phase = end->state[KOY_HEAD_END_PHASE_AT];
     return phase <= KOY_HEAD_END_ORDER_HIGH ? phase : KOY_HEAD_END_CLOSED;
@@ -442,9 +445,12 @@ static inline uint8_t koy_head_end_phase(const koy_guarded_initiator *end)
 
 /* ---- the cabinet ---- */
 
+/* likewise */
+typedef koy_guarded_responder koy_cabinet;
+
 typedef struct {
     uint8_t code;
-    size_t length;  /* KOY_SENT: send so many bytes of buf, if still within the slot */
+    size_t to_send; /* KOY_SENT: send so many bytes of buf, if still within the slot */
     koy_part order; /* KOY_HANDED_UP: carry it out once; a part of the heard bytes */
     size_t number;  /* KOY_HANDED_UP: the order's, for koy_answer_to */
 } koy_cabinet_told;
@@ -454,7 +460,7 @@ static inline koy_cabinet_told koy_cabinet_named(uint8_t code, const size_t told
 {
     koy_cabinet_told named = {code, 0, {heard, 0, 0}, 0};
     if (code == KOY_SENT)
-        named.length = told[0];
+        named.to_send = told[0];
     if (code == KOY_HANDED_UP) {
         named.order = koy_part_of(heard, told[0], told[1]);
         named.number = told[2];
@@ -463,13 +469,13 @@ static inline koy_cabinet_told koy_cabinet_named(uint8_t code, const size_t told
 }
 
 /* A cabinet that remembers nothing: the first call, and the one after a loss of power. 18. */
-static inline uint8_t koy_cabinet_new(koy_guarded_responder *end, size_t now, koy_settings settings)
+static inline uint8_t koy_cabinet_new(koy_cabinet *end, size_t now, koy_settings settings)
 {
     return koy_guarded_responder_new(end->state, end->guard, settings.own, settings.peer, now);
 }
 
-/* KOY_SENT, KOY_HANDED_UP, or 0, send nothing; 10. */
-static inline koy_cabinet_told koy_cabinet_hear(koy_guarded_responder *end, size_t now, koy_heard heard, uint8_t *buf,
+/* KOY_SENT, KOY_HANDED_UP, or KOY_NOTHING, send nothing; 10. */
+static inline koy_cabinet_told koy_cabinet_hear(koy_cabinet *end, size_t now, koy_heard heard, uint8_t *buf,
                                                 size_t buf_len)
 {
     size_t told[3] = {0, 0, 0};
@@ -479,7 +485,7 @@ static inline koy_cabinet_told koy_cabinet_hear(koy_guarded_responder *end, size
 }
 
 /* A reply of up to KOY_LONGEST_REPLY bytes. KOY_SENT; 21, the order was cancelled or answered: drop the reply; 10; 9. */
-static inline koy_cabinet_told koy_cabinet_answer(koy_guarded_responder *end, size_t now, koy_answer answer, uint8_t *buf,
+static inline koy_cabinet_told koy_cabinet_answer(koy_cabinet *end, size_t now, koy_answer answer, uint8_t *buf,
                                                   size_t buf_len)
 {
     size_t told[3] = {0, 0, 0};
@@ -489,13 +495,13 @@ static inline koy_cabinet_told koy_cabinet_answer(koy_guarded_responder *end, si
 }
 
 /* After a restart with the record at hand: forgets all but the addresses. */
-static inline void koy_cabinet_restart(koy_guarded_responder *end)
+static inline void koy_cabinet_restart(koy_cabinet *end)
 {
     koy_responder_restart(end->state);
 }
 
 /* KOY_CABINET_... */
-static inline uint8_t koy_cabinet_phase(const koy_guarded_responder *end)
+static inline uint8_t koy_cabinet_phase(const koy_cabinet *end)
 {
     uint8_t phase = end->state[KOY_CABINET_PHASE_AT];
     return phase <= KOY_CABINET_HOLDS_HIGH ? phase : KOY_CABINET_BLANK;

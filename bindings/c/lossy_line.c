@@ -13,8 +13,8 @@
 /* an order: what is wanted, and a number by which this program counts how often it was carried out; the reply: the feeder's state */
 enum { OPEN = 1, CLOSE = 2, ASK = 3, ORDERS = 10, MOST_GIVEN = 100 };
 
-static koy_guarded_initiator head_end;
-static koy_guarded_responder cabinet;
+static koy_head_end head_end;
+static koy_cabinet cabinet;
 
 /* The stamps of both ends: a count that is stepped at each sending, each receiving and each call. */
 static size_t events;
@@ -91,7 +91,7 @@ static size_t answer(work_item *item, uint8_t *buf)
         printf("  cabinet: the order was given up meanwhile, its reply is dropped\n");
     else if (told.code != KOY_SENT)
         fail("answer", told.code);
-    return told.length;
+    return told.to_send;
 }
 
 /* Hears a telegram; what it sends back within the slot goes to buf. Returns its length, or 0. */
@@ -103,9 +103,9 @@ static size_t cabinet_turn(const uint8_t *telegram, size_t length, uint8_t *buf)
         work_item *item = carry_out(told.order, told.number);
         return item->slots == 0 ? answer(item, buf) : 0;
     }
-    if (told.code != KOY_SENT && told.code != KOY_DONE)
+    if (told.code != KOY_SENT && told.code != KOY_NOTHING)
         fail("cabinet", told.code);
-    return told.length;
+    return told.to_send;
 }
 
 /* The slot is over. An answer that comes now is given, so that it is held, and what it wrote is not sent (rule 4). */
@@ -135,7 +135,7 @@ static koy_head_end_told head_end_turn(uint8_t *buf, size_t length)
             koy_head_end_hear(&head_end, stamp(), koy_heard_at(received, back, back_length), buf, KOY_ROOM);
         if (told.code == KOY_CONFIRMED && told.reply.length == 1)
             feeder_told = told.reply.bytes[0];
-        if (told.code != KOY_DONE)
+        if (told.code != KOY_NOTHING)
             return told;
     }
     cabinet_slot_over();
@@ -154,7 +154,7 @@ static uint8_t give(uint8_t what)
         fail("too many orders", given);
     koy_head_end_told told = koy_head_end_submit(&head_end, stamp(), order, sizeof order, buf, sizeof buf);
     while (told.code == KOY_SENT)
-        told = head_end_turn(buf, told.length);
+        told = head_end_turn(buf, told.to_send);
     if (told.code != KOY_CONFIRMED && told.code != KOY_NOT_SENT && told.code != KOY_UNKNOWN)
         fail("head end", told.code);
     printf("  order %u %s; tries %u\n", given, koy_code_text(told.code), (unsigned)told.tries);

@@ -267,8 +267,8 @@ static void settings(void)
 
 /* ---- the order link ---- */
 
-static koy_guarded_initiator head_end;
-static koy_guarded_responder cabinet;
+static koy_head_end head_end;
+static koy_cabinet cabinet;
 static uint8_t line[KOY_ROOM];
 static size_t line_length;
 
@@ -291,16 +291,16 @@ static void made(size_t tries)
 static void opened(const uint8_t *order, size_t order_len)
 {
     koy_head_end_told said = koy_head_end_submit(&head_end, 101, order, order_len, buf, sizeof buf);
-    CHECK(said.code == KOY_SENT && said.length == 6 && koy_head_end_phase(&head_end) == KOY_HEAD_END_OPENING);
-    line_length = said.length;
-    CHECK(koy_cabinet_hear(&cabinet, 1001, received(1000), buf, sizeof buf).code == KOY_DONE);
+    CHECK(said.code == KOY_SENT && said.to_send == 6 && koy_head_end_phase(&head_end) == KOY_HEAD_END_OPENING);
+    line_length = said.to_send;
+    CHECK(koy_cabinet_hear(&cabinet, 1001, received(1000), buf, sizeof buf).code == KOY_NOTHING);
     koy_cabinet_told heard = koy_cabinet_hear(&cabinet, 1001, received(1001), buf, sizeof buf);
-    CHECK(heard.code == KOY_SENT && heard.length == 6 && koy_cabinet_phase(&cabinet) == KOY_CABINET_OPENED);
-    line_length = heard.length;
-    CHECK(koy_head_end_hear(&head_end, 103, received(101), buf, sizeof buf).code == KOY_DONE);
+    CHECK(heard.code == KOY_SENT && heard.to_send == 6 && koy_cabinet_phase(&cabinet) == KOY_CABINET_OPENED);
+    line_length = heard.to_send;
+    CHECK(koy_head_end_hear(&head_end, 103, received(101), buf, sizeof buf).code == KOY_NOTHING);
     said = koy_head_end_hear(&head_end, 103, received(102), buf, sizeof buf);
-    CHECK(said.code == KOY_SENT && said.length == order_len + 9 && koy_head_end_phase(&head_end) == KOY_HEAD_END_ORDER_LOW);
-    line_length = said.length;
+    CHECK(said.code == KOY_SENT && said.to_send == order_len + 9 && koy_head_end_phase(&head_end) == KOY_HEAD_END_ORDER_LOW);
+    line_length = said.to_send;
 }
 
 static void an_order(void)
@@ -314,15 +314,15 @@ static void an_order(void)
     CHECK(handed.order.bytes == line + 7 && handed.order.length == 3 && memcmp(handed.order.bytes, order, 3) == 0);
     CHECK(koy_cabinet_answer(&cabinet, 1004, koy_answer_to(1004, reply, 2), buf, sizeof buf).code == KOY_NO_REPLY_OWED);
     koy_cabinet_told sent = koy_cabinet_answer(&cabinet, 1004, koy_answer_to(handed.number, reply, 2), buf, sizeof buf);
-    CHECK(sent.code == KOY_SENT && sent.length == 11 && koy_cabinet_phase(&cabinet) == KOY_CABINET_HOLDS_LOW);
-    line_length = sent.length;
+    CHECK(sent.code == KOY_SENT && sent.to_send == 11 && koy_cabinet_phase(&cabinet) == KOY_CABINET_HOLDS_LOW);
+    line_length = sent.to_send;
     koy_head_end_told said = koy_head_end_hear(&head_end, 106, received(105), buf, sizeof buf);
-    CHECK(said.code == KOY_CONFIRMED && said.tries == 1 && said.length == 0);
+    CHECK(said.code == KOY_CONFIRMED && said.tries == 1 && said.to_send == 0);
     CHECK(said.reply.bytes == line + 7 && said.reply.length == 2 && memcmp(said.reply.bytes, reply, 2) == 0);
     CHECK(koy_head_end_phase(&head_end) == KOY_HEAD_END_READY_HIGH);
-    CHECK(koy_head_end_silence(&head_end, 107, buf, sizeof buf).code == KOY_DONE);
+    CHECK(koy_head_end_silence(&head_end, 107, buf, sizeof buf).code == KOY_NOTHING);
     koy_cabinet_restart(&cabinet);
-    CHECK(koy_cabinet_phase(&cabinet) == KOY_CABINET_BLANK && koy_head_end_restart(&head_end).code == KOY_DONE);
+    CHECK(koy_cabinet_phase(&cabinet) == KOY_CABINET_BLANK && koy_head_end_restart(&head_end).code == KOY_NOTHING);
 }
 
 static void given_up(void)
@@ -333,16 +333,16 @@ static void given_up(void)
     CHECK(koy_head_end_submit(&head_end, 101, order, 0, buf, sizeof buf).code == KOY_ORDER_LENGTH);
     CHECK(koy_head_end_submit(&head_end, 101, order, 1, buf, KOY_ROOM - 1).code == KOY_NO_ROOM);
     CHECK(koy_head_end_submit(&head_end, 101, order, KOY_LONGEST_ORDER, buf, sizeof buf).code == KOY_SENT);
-    CHECK(koy_head_end_silence(&head_end, 102, buf, sizeof buf).length == 6);
+    CHECK(koy_head_end_silence(&head_end, 102, buf, sizeof buf).to_send == 6);
     CHECK(koy_head_end_silence(&head_end, 103, buf, sizeof buf).code == KOY_SENT);
     koy_head_end_told said = koy_head_end_silence(&head_end, 104, buf, sizeof buf);
-    CHECK(said.code == KOY_NOT_SENT && said.tries == 3 && said.length == 0);
+    CHECK(said.code == KOY_NOT_SENT && said.tries == 3 && said.to_send == 0);
     made(2);
     opened(order, 1);
     said = koy_head_end_silence(&head_end, 104, buf, sizeof buf);
-    CHECK(said.code == KOY_SENT && said.length == 10);
+    CHECK(said.code == KOY_SENT && said.to_send == 10);
     said = koy_head_end_silence(&head_end, 105, buf, sizeof buf);
-    CHECK(said.code == KOY_UNKNOWN && said.tries == 2 && said.length == 0);
+    CHECK(said.code == KOY_UNKNOWN && said.tries == 2 && said.to_send == 0);
     made(2);
     opened(order, 1);
     said = koy_head_end_restart(&head_end);
@@ -358,11 +358,11 @@ static void plain_ends(void)
     head_end.state[KOY_HEAD_END_PHASE_AT] = 6;
     cabinet.state[KOY_CABINET_PHASE_AT] = 6;
     CHECK(koy_head_end_phase(&head_end) == KOY_HEAD_END_CLOSED && koy_cabinet_phase(&cabinet) == KOY_CABINET_BLANK);
-    CHECK(koy_head_end_named(koy_initiator_submit(head_end.state, order, 1, buf, sizeof buf, told), told, NULL).length == 6);
+    CHECK(koy_head_end_named(koy_initiator_submit(head_end.state, order, 1, buf, sizeof buf, told), told, NULL).to_send == 6);
     line_length = 6;
     (void)received(0);
-    CHECK(koy_cabinet_named(koy_responder_hear(cabinet.state, line, 6, buf, sizeof buf, told), told, line).length == 6);
-    CHECK(koy_head_end_named(KOY_NO_ROOM, told, NULL).length == 0 && koy_cabinet_named(KOY_NO_ROOM, told, line).length == 0);
+    CHECK(koy_cabinet_named(koy_responder_hear(cabinet.state, line, 6, buf, sizeof buf, told), told, line).to_send == 6);
+    CHECK(koy_head_end_named(KOY_NO_ROOM, told, NULL).to_send == 0 && koy_cabinet_named(KOY_NO_ROOM, told, line).to_send == 0);
 }
 
 /* ---- NULL with length 0 ---- */
@@ -405,16 +405,16 @@ static void null_link(void)
     CHECK(koy_head_end_submit(&head_end, 101, NULL, 0, buf, sizeof buf).code == KOY_ORDER_LENGTH);
     CHECK(koy_head_end_submit(&head_end, 101, order, 1, NULL, 0).code == KOY_NO_ROOM);
     CHECK(koy_head_end_silence(&head_end, 101, NULL, 0).code == KOY_NO_ROOM);
-    CHECK(koy_head_end_hear(&head_end, 102, koy_heard_at(102, NULL, 0), buf, sizeof buf).code == KOY_DONE);
+    CHECK(koy_head_end_hear(&head_end, 102, koy_heard_at(102, NULL, 0), buf, sizeof buf).code == KOY_NOTHING);
     CHECK(koy_head_end_hear(&head_end, 102, koy_heard_at(102, NULL, 0), NULL, 0).code == KOY_NO_ROOM);
-    CHECK(koy_cabinet_hear(&cabinet, 1002, koy_heard_at(1002, NULL, 0), buf, sizeof buf).code == KOY_DONE);
+    CHECK(koy_cabinet_hear(&cabinet, 1002, koy_heard_at(1002, NULL, 0), buf, sizeof buf).code == KOY_NOTHING);
     CHECK(koy_cabinet_hear(&cabinet, 1002, koy_heard_at(1002, NULL, 0), NULL, 0).code == KOY_NO_ROOM);
     opened(order, 1);
     CHECK(koy_cabinet_hear(&cabinet, 1003, received(1002), buf, sizeof buf).code == KOY_HANDED_UP);
     CHECK(koy_cabinet_answer(&cabinet, 1004, koy_answer_to(1001, NULL, 0), NULL, 0).code == KOY_NO_ROOM);
     koy_cabinet_told sent = koy_cabinet_answer(&cabinet, 1004, koy_answer_to(1001, NULL, 0), buf, sizeof buf);
     CHECK(sent.code == KOY_SENT);
-    line_length = sent.length;
+    line_length = sent.to_send;
     koy_head_end_told said = koy_head_end_hear(&head_end, 106, received(105), buf, sizeof buf);
     CHECK(said.code == KOY_CONFIRMED && said.reply.length == 0);
 }
@@ -428,18 +428,31 @@ static void null_link_plain(void)
     CHECK(koy_initiator_submit(head_end.state, order, 1, NULL, 0, told) == KOY_NO_ROOM);
     CHECK(koy_initiator_silence(head_end.state, NULL, 0, told) == KOY_NO_ROOM);
     CHECK(koy_initiator_hear(head_end.state, NULL, 0, buf, sizeof buf, told) == KOY_DONE);
+    CHECK(koy_initiator_hear(head_end.state, NULL, 0, NULL, 0, told) == KOY_NO_ROOM);
     CHECK(koy_responder_hear(cabinet.state, NULL, 0, buf, sizeof buf, told) == KOY_DONE);
     CHECK(koy_responder_hear(cabinet.state, NULL, 0, NULL, 0, told) == KOY_NO_ROOM);
     cabinet.state[KOY_CABINET_PHASE_AT] = KOY_CABINET_OWES_LOW;
     CHECK(koy_responder_answer(cabinet.state, NULL, 0, NULL, 0, told) == KOY_NO_ROOM);
     CHECK(koy_responder_answer(cabinet.state, NULL, 0, buf, sizeof buf, told) == KOY_SENT && told[0] == 6);
+}
+
+static void null_link_guarded(void)
+{
+    const uint8_t order[] = {1};
+    size_t told[3] = {0, 0, 0};
+    uint8_t *head = head_end.state, *row = cabinet.state;
+    size_t *last = head_end.last, *guard = cabinet.guard;
     made(2);
-    CHECK(koy_guarded_initiator_submit(head_end.state, head_end.last, 101, NULL, 0, buf, sizeof buf, told) == KOY_ORDER_LENGTH);
-    CHECK(koy_guarded_initiator_silence(head_end.state, head_end.last, 101, NULL, 0, told) == KOY_NO_ROOM);
-    CHECK(koy_guarded_initiator_hear(head_end.state, head_end.last, 102, 102, NULL, 0, buf, sizeof buf, told) == KOY_DONE);
-    CHECK(koy_guarded_responder_hear(cabinet.state, cabinet.guard, 1002, 1002, NULL, 0, NULL, 0, told) == KOY_NO_ROOM);
-    cabinet.state[KOY_CABINET_PHASE_AT] = KOY_CABINET_OWES_HIGH;
-    CHECK(koy_guarded_responder_answer(cabinet.state, cabinet.guard, 1000, 1003, NULL, 0, buf, sizeof buf, told) == KOY_SENT);
+    CHECK(koy_guarded_initiator_submit(head, last, 101, NULL, 0, buf, sizeof buf, told) == KOY_ORDER_LENGTH);
+    CHECK(koy_guarded_initiator_submit(head, last, 101, order, 1, NULL, 0, told) == KOY_NO_ROOM);
+    CHECK(koy_guarded_initiator_silence(head, last, 101, NULL, 0, told) == KOY_NO_ROOM);
+    CHECK(koy_guarded_initiator_hear(head, last, 102, 102, NULL, 0, buf, sizeof buf, told) == KOY_NOTHING);
+    CHECK(koy_guarded_initiator_hear(head, last, 102, 102, NULL, 0, NULL, 0, told) == KOY_NO_ROOM);
+    CHECK(koy_guarded_responder_hear(row, guard, 1002, 1002, NULL, 0, buf, sizeof buf, told) == KOY_NOTHING);
+    CHECK(koy_guarded_responder_hear(row, guard, 1002, 1002, NULL, 0, NULL, 0, told) == KOY_NO_ROOM);
+    row[KOY_CABINET_PHASE_AT] = KOY_CABINET_OWES_HIGH;
+    CHECK(koy_guarded_responder_answer(row, guard, 1000, 1003, NULL, 0, NULL, 0, told) == KOY_NO_ROOM);
+    CHECK(koy_guarded_responder_answer(row, guard, 1000, 1003, NULL, 0, buf, sizeof buf, told) == KOY_SENT);
 }
 
 /* ---- codes, sizes, version ---- */
@@ -490,6 +503,7 @@ int main(void)
     null_bus_plain();
     null_link();
     null_link_plain();
+    null_link_guarded();
     texts();
     sizes();
     printf("test: %lu checks, %lu failures\n", checks, failures);

@@ -234,8 +234,8 @@ uint8_t koy_write_confirmation(uint8_t *buf, size_t buf_len);
  * [1] own  [2] next  [3] previous station  [4..131] a flag for each address; any byte but 0 counts as set */
 #define KOY_STATIONS_SIZE 132
 
-/* A call that is not refused writes all 132 bytes anew: a phase above 3 becomes 0 then and a flag above 1 becomes 1, so that bytes
- * that did not come from these calls may change where the list does not. Those that did, do not. */
+/* A call that may change the list writes all 132 bytes anew unless it refuses: then a phase above 3 becomes 0 and a flag above 1
+ * becomes 1. Bytes that these calls made are the same again; others may change where the list does not. */
 
 /* A fresh list. 11. */
 uint8_t koy_stations_new(uint8_t state[132], uint8_t own);

@@ -367,7 +367,8 @@ static inline koy_answer koy_answer_to(size_t number, const uint8_t *bytes, size
     return answer;
 }
 
-/* `now` below is the stamp of the call: of the clock or count that stamps what is heard. buf wants KOY_ROOM bytes: 10 otherwise. */
+/* `now` below is the stamp of the call, of the clock or count that stamps what is heard (koyandefa.h, "the order link, guarded", says
+ * what it has to be). buf wants KOY_ROOM bytes: 10 otherwise. */
 
 /* ---- the head end ---- */
 

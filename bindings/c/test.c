@@ -130,13 +130,19 @@ static void writing(void)
 /* the 120 function codes are those that the macros make, and those responses with bit 7 */
 static void function_codes(void)
 {
-    const uint8_t requests[] = {KOY_FC_TIME_EVENT,    KOY_FC_SDA_LOW,    KOY_FC_SDN_LOW, KOY_FC_SDA_HIGH,
-                                KOY_FC_SDN_HIGH,      KOY_FC_MULTICAST_SRD, KOY_FC_FDL_STATUS, KOY_FC_SRD_LOW,
-                                KOY_FC_SRD_HIGH,      KOY_FC_IDENT,      KOY_FC_LSAP_STATUS, KOY_FC_CLOCK_VALUE};
+    const uint8_t requests[] = {KOY_FC_TIME_EVENT,  KOY_FC_SDA_LOW,       KOY_FC_SDN_LOW,    KOY_FC_SDA_HIGH,
+                                KOY_FC_SDN_HIGH,    KOY_FC_MULTICAST_SRD, KOY_FC_FDL_STATUS, KOY_FC_SRD_LOW,
+                                KOY_FC_SRD_HIGH,    KOY_FC_IDENT,         KOY_FC_LSAP_STATUS, KOY_FC_CLOCK_VALUE};
     const uint8_t counts[] = {KOY_FC_INACTIVE, KOY_FC_LOW, KOY_FC_FIRST, KOY_FC_HIGH};
     const uint8_t states[] = {KOY_FC_SLAVE, KOY_FC_MASTER_NOT_READY, KOY_FC_MASTER_WITHOUT_TOKEN, KOY_FC_MASTER_IN_RING};
-    const uint8_t statuses[] = {KOY_FC_OK,        KOY_FC_USER_ERROR, KOY_FC_NO_RESOURCES, KOY_FC_SAP_NOT_ENABLED,
-                                KOY_FC_DATA_LOW,  KOY_FC_NO_DATA_READY, KOY_FC_DATA_HIGH, KOY_FC_NOT_RECEIVED_DATA_LOW,
+    const uint8_t statuses[] = {KOY_FC_OK,
+                                KOY_FC_USER_ERROR,
+                                KOY_FC_NO_RESOURCES,
+                                KOY_FC_SAP_NOT_ENABLED,
+                                KOY_FC_DATA_LOW,
+                                KOY_FC_NO_DATA_READY,
+                                KOY_FC_DATA_HIGH,
+                                KOY_FC_NOT_RECEIVED_DATA_LOW,
                                 KOY_FC_NOT_RECEIVED_DATA_HIGH};
     bool named[256] = {false};
     int count = 0;
@@ -321,8 +327,23 @@ static void an_order(void)
     CHECK(said.reply.bytes == line + 7 && said.reply.length == 2 && memcmp(said.reply.bytes, reply, 2) == 0);
     CHECK(koy_head_end_phase(&head_end) == KOY_HEAD_END_READY_HIGH);
     CHECK(koy_head_end_silence(&head_end, 107, buf, sizeof buf).code == KOY_NOTHING);
+}
+
+/* under High, behind the one under Low; then both restart */
+static void next_order(void)
+{
+    const uint8_t order[] = {2};
+    line_length = koy_head_end_submit(&head_end, 108, order, sizeof order, buf, sizeof buf).to_send;
+    CHECK(line_length == 10 && koy_head_end_phase(&head_end) == KOY_HEAD_END_ORDER_HIGH);
+    koy_cabinet_told handed = koy_cabinet_hear(&cabinet, 1006, received(1005), buf, sizeof buf);
+    CHECK(handed.number == 1002 && handed.order.length == 1 && koy_cabinet_phase(&cabinet) == KOY_CABINET_OWES_HIGH);
+    line_length = koy_cabinet_answer(&cabinet, 1007, koy_answer_to(handed.number, order, 1), buf, sizeof buf).to_send;
+    CHECK(line_length == 10 && koy_cabinet_phase(&cabinet) == KOY_CABINET_HOLDS_HIGH);
+    CHECK(koy_head_end_hear(&head_end, 110, received(109), buf, sizeof buf).code == KOY_CONFIRMED);
+    CHECK(koy_head_end_phase(&head_end) == KOY_HEAD_END_READY_LOW);
     koy_cabinet_restart(&cabinet);
     CHECK(koy_cabinet_phase(&cabinet) == KOY_CABINET_BLANK && koy_head_end_restart(&head_end).code == KOY_NOTHING);
+    CHECK(koy_head_end_phase(&head_end) == KOY_HEAD_END_CLOSED);
 }
 
 static void given_up(void)
@@ -497,6 +518,7 @@ int main(void)
     channels();
     settings();
     an_order();
+    next_order();
     given_up();
     plain_ends();
     null_bus();

@@ -6,12 +6,13 @@
  * printed with lossy_line.out. */
 #include <stdio.h>
 #include <stdlib.h>
-#include <string.h>
 
 #include "koyandefa.h"
 
 /* an order: what is wanted, and a number by which this program counts how often it was carried out; the reply: the feeder's state */
-enum { OPEN = 1, CLOSE = 2, ASK = 3, ORDERS = 10, MOST_GIVEN = 100 };
+enum { OPEN = 1, CLOSE = 2, ASK = 3 };
+
+enum { ORDERS = 10, MOST_GIVEN = 100, MOST_IN_WORK = 4 };
 
 static koy_head_end head_end;
 static koy_cabinet cabinet;
@@ -31,12 +32,12 @@ static void fail(const char *what, size_t code)
 
 /* ---- the line: loses about one telegram of three ---- */
 
-static uint32_t noise = 3;
+static uint32_t seed = 3;
 
 static bool is_lost(void)
 {
-    noise = noise * 1664525u + 1013904223u;
-    return (noise >> 24) < 90;
+    seed = seed * 1664525u + 1013904223u;
+    return (seed >> 24) < 90;
 }
 
 static bool carry(const char *who, const uint8_t *telegram, size_t length)
@@ -61,14 +62,16 @@ typedef struct {
     size_t number;
     unsigned slots;
 } work_item;
-static work_item work[4];
+static work_item work[MOST_IN_WORK];
 
 /* Now and then it takes a slot or more, and each time longer. */
 static work_item *carry_out(koy_part order, size_t number)
 {
     work_item *item = work;
+    if (order.length != 2 || order.bytes[1] >= MOST_GIVEN)
+        fail("not an order of this program", order.length);
     while (item->busy)
-        if (++item == work + 4)
+        if (++item == work + MOST_IN_WORK)
             fail("too many orders in work", number);
     if (order.bytes[0] != ASK)
         feeder = order.bytes[0];
@@ -112,7 +115,7 @@ static size_t cabinet_turn(const uint8_t *telegram, size_t length, uint8_t *buf)
 static void cabinet_slot_over(void)
 {
     uint8_t buf[KOY_ROOM];
-    for (work_item *item = work; item < work + 4; item++)
+    for (work_item *item = work; item < work + MOST_IN_WORK; item++)
         if (item->busy && item->slots-- == 0 && answer(item, buf) > 0)
             printf("  cabinet: answered after its slot, and not sent\n");
 }

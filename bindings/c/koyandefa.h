@@ -1,13 +1,26 @@
 /* Koyandefa: telegrams, the station list, diagnostics and the order link of PROFIBUS, as proved functions.
  *
- * Link with libexports.a, and where a call of the order link is used, koy_guarded_..., koy_initiator_... or koy_responder_..., with
- * libexports_link.a too (bindings/archives makes both); neither needs the other. They allocate nothing, keep no state of their
- * own, call nothing but memcpy and memset, and return from every call. Each call is proved to answer every number, every length
- * and every content of the bytes that it is lent as document 01 says.
+ * This file has the numbers and the 34 calls as the archives export them. koyandefa_named.h, which it includes at its end, has what
+ * a driver calls: the same calls with named answers (koy_telegram_read gives kind, length, sa, da ... where koy_read fills an array
+ * of nine), with names for addresses, SAPs and stamps, which the plain calls take as bare numbers and da and sa in both orders, and
+ * with the text of every code. Read this head and the numbers, then that file; of the calls here, the notes on the order link.
+ * docs/DRIVERS.md says what a driver owes; bindings/c/lossy_line.c and noisy_stream.c are drivers.
  *
- * What the caller owes, as with memcpy: a pointer and a length name bytes that are there; a pointer may be any that is not
- * null where the length is 0; an array has as many elements as its type says; what a call is lent to write to overlaps
- * nothing else that it is lent.
+ * Linking: `pkg-config --cflags --libs koyandefa` where it was installed (bindings/c/install PREFIX). In the tree libexports.a, and
+ * for the order link libexports_link.a (bindings/archives makes both); neither needs the other.
+ *
+ * Machine: x86-64 alone, as the archives are; C99, C11, or C++ from C++17 on. The calls allocate nothing, keep no state of their
+ * own, call nothing but memcpy and memset, and return from every call. Each is proved to answer every number, every length and
+ * every content of the bytes that it is lent as document 01 says, the guarded ones as is said below.
+ *
+ * Stack that a call takes, in bytes: the station list 480 at most, the guarded link 184, the plain link 168, settings 136, reading
+ * and writing 64, diagnostics 0 (docs/SPEED.md has every call). A named form takes up to 112 more, by gcc 12.2 with -O2.
+ *
+ * Threads: any call from any number of threads at once, but a state that a call writes is lent to one call at a time: one lock for
+ * each record, or one thread.
+ *
+ * What the caller owes, as with memcpy: a pointer and a length name bytes that are there; WHERE THE LENGTH IS 0 THE POINTER MAY BE
+ * NULL; an array has as many elements as its type says; what a call is lent to write to overlaps nothing else that it is lent.
  *
  * Codes. A call that may refuse returns 0 for done or the number of document 01's refusal (1 to 22), and some calls one of
  * the codes from 100 on. A REFUSED CALL LEAVES ALL THAT IT WAS LENT AS IT CAME; only a refused walk moves its cursor.
@@ -15,8 +28,8 @@
  * State is lent as bytes of a stated size and belongs to the caller. The layout is given below and every content is answered. The
  * station list may be copied, stored and sent. A LINK'S RECORD IS NEVER COPIED BACK OR LOADED: see "the order link".
  *
- * Buffers. To write, 255 bytes are always enough. To receive, take KOY_LONGEST_TELEGRAM: noise as 68 FF FF 68 ... announces 261
- * bytes, and koy_read answers KOY_INCOMPLETE until they are there; a buffer of 255 would wait for them for ever.
+ * Buffers. To write, KOY_ROOM bytes (255) are always enough. To receive, take KOY_LONGEST_TELEGRAM: noise as 68 FF FF 68 ...
+ * announces 261 bytes, and koy_read answers KOY_INCOMPLETE until they are there; a buffer of 255 would wait for them for ever.
  */
 #ifndef KOYANDEFA_H
 #define KOYANDEFA_H
@@ -25,6 +38,19 @@
 #include <stddef.h>
 #include <stdint.h>
 
+#ifndef __x86_64__
+#error "koyandefa: the archives are for x86-64"
+#endif
+#if SIZE_MAX != UINT64_MAX
+#error "koyandefa: size_t must have 64 bits"
+#endif
+
+/* the version of this header and of the archives that it goes with */
+#define KOY_VERSION_MAJOR 0
+#define KOY_VERSION_MINOR 1
+#define KOY_VERSION_PATCH 0
+#define KOY_VERSION "0.1.0"
+
 #ifdef __cplusplus
 extern "C" {
 #endif
@@ -32,7 +58,9 @@ extern "C" {
 /* ---- codes ---- */
 
 #define KOY_DONE 0
-/* refusals of document 01; no call here gives 15 or 22 */
+/* the same number, from an end of the link: nothing to do */
+#define KOY_NOTHING 0
+/* refusals of document 01 (koy_code_text has its words); no call here gives 15 or 22 */
 #define KOY_UNKNOWN_START 1
 #define KOY_LENGTHS_DIFFER 2
 #define KOY_LENGTH_TOO_SMALL 3
@@ -47,12 +75,14 @@ extern "C" {
 #define KOY_BLOCK_CUT_OFF 12
 #define KOY_BLOCK_RESERVED 13
 #define KOY_BLOCK_LENGTH_ZERO 14
+#define KOY_CYCLE_INACTIVE 15
 #define KOY_ORDER_LENGTH 16
 #define KOY_ORDER_PENDING 17
 #define KOY_LINK_ADDRESSES 18
 #define KOY_TRIES 19
 #define KOY_SETTINGS_FORM 20
 #define KOY_NO_REPLY_OWED 21
+#define KOY_INPUT_TOO_LONG 22
 /* answers that are no refusals */
 #define KOY_INCOMPLETE 100 /* reading: too few bytes to tell */
 #define KOY_AT_END 101     /* the walk: no more blocks */
@@ -62,11 +92,118 @@ extern "C" {
 #define KOY_UNKNOWN 105    /* the pending order was carried out at most once */
 #define KOY_HANDED_UP 106  /* carry this order out, then answer */
 
-/* stands where a byte is absent: an address, a SAP, a function code */
+/* ---- numbers ---- */
+
+/* stands where a byte is absent: an address, a SAP, a function code. No byte equals it. */
 #define KOY_ABSENT 256
 
 /* the room of a receive buffer; so many bytes are never KOY_INCOMPLETE */
 #define KOY_LONGEST_TELEGRAM 261
+/* the room of a write buffer: enough for every telegram, and what each call of the link that may write wants */
+#define KOY_ROOM 255
+/* PDU and SAPs of a data telegram together; an order, which has 1 byte at least; a reply, which may be empty */
+#define KOY_LONGEST_PDU 246
+#define KOY_LONGEST_ORDER 246
+#define KOY_LONGEST_REPLY 246
+#define KOY_TOKEN_LENGTH 3
+#define KOY_SHORT_CONFIRMATION_LENGTH 1
+/* the longest settings text */
+#define KOY_LONGEST_SETTINGS 25
+
+/* the highest address of a station, and of a data telegram; 127 is for all stations */
+#define KOY_LAST_STATION 125
+#define KOY_ALL_STATIONS 127
+
+/* telegrams in each phase of an order, before it is given up */
+#define KOY_LEAST_TRIES 1
+#define KOY_MOST_TRIES 8
+#define KOY_DEFAULT_TRIES 2
+
+/* kinds of telegrams */
+#define KOY_SHORT_CONFIRMATION 1
+#define KOY_TOKEN 2
+#define KOY_DATA 3
+
+/* function codes: a request is one of these and a frame count part ... */
+#define KOY_FC_TIME_EVENT 0x40
+#define KOY_FC_SDA_LOW 0x43
+#define KOY_FC_SDN_LOW 0x44
+#define KOY_FC_SDA_HIGH 0x45
+#define KOY_FC_SDN_HIGH 0x46
+#define KOY_FC_MULTICAST_SRD 0x47
+#define KOY_FC_FDL_STATUS 0x49
+#define KOY_FC_SRD_LOW 0x4C
+#define KOY_FC_SRD_HIGH 0x4D
+#define KOY_FC_IDENT 0x4E
+#define KOY_FC_LSAP_STATUS 0x4F
+#define KOY_FC_CLOCK_VALUE 0xC0
+/* (FCV, FCB) */
+#define KOY_FC_INACTIVE 0x00
+#define KOY_FC_LOW 0x10
+#define KOY_FC_FIRST 0x20
+#define KOY_FC_HIGH 0x30
+/* ... and a response, which has this bit clear, a state and a status */
+#define KOY_FC_REQUEST 0x40
+#define KOY_FC_SLAVE 0x00
+#define KOY_FC_MASTER_NOT_READY 0x10
+#define KOY_FC_MASTER_WITHOUT_TOKEN 0x20
+#define KOY_FC_MASTER_IN_RING 0x30
+#define KOY_FC_OK 0x00
+#define KOY_FC_USER_ERROR 0x01
+#define KOY_FC_NO_RESOURCES 0x02
+#define KOY_FC_SAP_NOT_ENABLED 0x03
+#define KOY_FC_DATA_LOW 0x08
+#define KOY_FC_NO_DATA_READY 0x09
+#define KOY_FC_DATA_HIGH 0x0A
+#define KOY_FC_NOT_RECEIVED_DATA_LOW 0x0C
+#define KOY_FC_NOT_RECEIVED_DATA_HIGH 0x0D
+
+/* phases of a station list */
+#define KOY_UNINITIALIZED 0
+#define KOY_DISCOVERY 1
+#define KOY_VERIFICATION 2
+#define KOY_VALID 3
+
+/* kinds of diagnostics blocks; of a channel's block the types, and the errors (16 to 31 are the vendor's, others reserved) */
+#define KOY_IDENTIFIER_BLOCK 1
+#define KOY_DEVICE_BLOCK 2
+#define KOY_CHANNEL_BLOCK 3
+#define KOY_TYPE_BIT 1
+#define KOY_TYPE_BIT2 2
+#define KOY_TYPE_BIT4 3
+#define KOY_TYPE_BYTE 4
+#define KOY_TYPE_WORD 5
+#define KOY_TYPE_DWORD 6
+#define KOY_TYPE_INVALID 7
+#define KOY_ERROR_SHORT_CIRCUIT 1
+#define KOY_ERROR_UNDER_VOLTAGE 2
+#define KOY_ERROR_OVER_VOLTAGE 3
+#define KOY_ERROR_OVER_LOAD 4
+#define KOY_ERROR_OVER_TEMPERATURE 5
+#define KOY_ERROR_LINE_BREAK 6
+#define KOY_ERROR_UPPER_LIMIT_OVERSHOOT 7
+#define KOY_ERROR_LOWER_LIMIT_UNDERSHOOT 8
+#define KOY_ERROR_ERROR 9
+#define KOY_ERROR_FIRST_OF_VENDOR 16
+#define KOY_ERROR_LAST_OF_VENDOR 31
+
+/* phases of the head end and of the cabinet, in their records */
+#define KOY_HEAD_END_CLOSED 0
+#define KOY_HEAD_END_READY_LOW 1
+#define KOY_HEAD_END_READY_HIGH 2
+#define KOY_HEAD_END_OPENING 3
+#define KOY_HEAD_END_ORDER_LOW 4
+#define KOY_HEAD_END_ORDER_HIGH 5
+#define KOY_CABINET_BLANK 0
+#define KOY_CABINET_OPENED 1
+#define KOY_CABINET_OWES_LOW 2
+#define KOY_CABINET_OWES_HIGH 3
+#define KOY_CABINET_HOLDS_LOW 4
+#define KOY_CABINET_HOLDS_HIGH 5
+
+/* the places of these phases */
+#define KOY_HEAD_END_PHASE_AT 3
+#define KOY_CABINET_PHASE_AT 2
 
 /* ---- telegrams ---- */
 
@@ -80,11 +217,11 @@ uint8_t koy_read(const uint8_t *bytes, size_t bytes_len, size_t told[9]);
 
 /* Writes a data telegram to the front of buf. A dsap or ssap of 256 and above is absent. 0: told is
  *   [0] the bytes written   [1] the station that is to reply, or KOY_ABSENT
- * 4: fc is no function code; 8, 9, 10 in this order. (FDL status request: fc 0x49, no PDU.) */
+ * 4: fc is no function code; 8, 9, 10 in this order. (FDL status request: fc KOY_FC_FDL_STATUS, no PDU.) */
 uint8_t koy_write_data(uint8_t da, uint8_t sa, size_t dsap, size_t ssap, uint8_t fc, const uint8_t *pdu, size_t pdu_len,
                        uint8_t *buf, size_t buf_len, size_t told[2]);
 
-/* Writes a token, 3 bytes. 10. */
+/* Writes a token, 3 bytes. DA COMES FIRST. 10. */
 uint8_t koy_write_token(uint8_t da, uint8_t sa, uint8_t *buf, size_t buf_len);
 
 /* Writes a short confirmation, 1 byte. 10. */
@@ -97,9 +234,13 @@ uint8_t koy_write_confirmation(uint8_t *buf, size_t buf_len);
  * [1] own  [2] next  [3] previous station  [4..131] a flag for each address; any byte but 0 counts as set */
 #define KOY_STATIONS_SIZE 132
 
+/* A call that may change the list writes all 132 bytes anew unless it refuses: then a phase above 3 becomes 0 and a flag above 1
+ * becomes 1. Bytes that these calls made are the same again; others may change where the list does not. */
+
 /* A fresh list. 11. */
 uint8_t koy_stations_new(uint8_t state[132], uint8_t own);
-/* A token pass sa to da was seen. An address above 125 changes nothing. */
+/* A token pass sa to da was seen. With an address above 125 the list stays as it is (its bytes are written anew, as above). SA COMES
+ * FIRST HERE, and da in koy_write_token: koy_stations_witness_pass and koy_token_write take a struct. */
 void koy_stations_witness(uint8_t state[132], uint8_t sa, uint8_t da);
 /* The token was claimed: the phase is Valid. */
 void koy_stations_claim(uint8_t state[132]);
@@ -188,7 +329,7 @@ typedef struct {
 
 /* told is as with the plain calls of the head end. */
 
-/* A link that is closed: the first call, and the one after a loss of power. tries 1 to 8 (2 is the default). 18, 19. */
+/* A link that is closed: the first call, and the one after a loss of power. tries 1 to 8 (KOY_DEFAULT_TRIES). 18, 19. */
 uint8_t koy_guarded_initiator_new(uint8_t state[252], size_t last[1], uint8_t own, uint8_t peer, uint8_t tries, size_t moment);
 /* Submits an order of 1 to 246 bytes. KOY_SENT; 10, 17, 16 in this order. */
 uint8_t koy_guarded_initiator_submit(uint8_t state[252], size_t last[1], size_t moment, const uint8_t *order, size_t order_len,
@@ -226,7 +367,7 @@ uint8_t koy_guarded_responder_answer(uint8_t state[250], size_t guard[2], size_t
  *   0: nothing to do. What is not named is 0.
  * tries are the telegrams written in the order's last phase. */
 
-/* A link that is closed: the first call, and the one after a loss of power. tries 1 to 8 (2 is the default). 18, 19. */
+/* A link that is closed: the first call, and the one after a loss of power. tries 1 to 8 (KOY_DEFAULT_TRIES). 18, 19. */
 uint8_t koy_initiator_new(uint8_t state[252], uint8_t own, uint8_t peer, uint8_t tries);
 /* Submits an order of 1 to 246 bytes. KOY_SENT; 10, 17, 16 in this order. */
 uint8_t koy_initiator_submit(uint8_t state[252], const uint8_t *order, size_t order_len, uint8_t *buf, size_t buf_len,
@@ -261,5 +402,7 @@ void koy_responder_restart(uint8_t state[250]);
 #ifdef __cplusplus
 }
 #endif
+
+#include "koyandefa_named.h"
 
 #endif

@@ -49,7 +49,7 @@ module _ (s : List ℕ) (at header : ℕ) (e : stepOf s at .cursor ≡ at + leng
 within-by : {s : List ℕ} {at : ℕ} → StepCase s at → {p : PlacedBlock} {start size : ℕ} → stepOf s at .answer ≡ block p → BodyOf p start size
     → BodyWithin s at start size
 within-by (ended _ e) q b = clash (cc)
-within-by (refusal _ n _ _ e) q b = clash (cc)
+within-by (refusal _ n _ e) q b = clash (cc)
 within-by {s} {at} (found _ _ some fits e) {p} q b =
     let placed : blockAt s at (byteAt s at) ≡ p = cc in
     kind-within s at _ (rw e) some fits (kind s at (byteAt s at)) placed b

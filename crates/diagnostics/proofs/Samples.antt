@@ -1,11 +1,19 @@
--- What is answered to bad input of each kind, computed on the definitions.
-use mathlib.Core.Path.{_≡_, refl}
+-- Computed on the definitions: what is answered to bad input of each kind (`bad-input`), and the smallest inputs that document 01 takes and the
+-- standard does not (`beyond-the-standard`).
+use mathlib.Core.Path.{_≡_, refl, ap, sym, _∙_}
 use mathlib.Core.Bool.{true, false}
-use mathlib.Core.List.{[], _∷_}
+use mathlib.Core.List.{List, [], _∷_}
 use Rattle.ground.specs.Part.{shownPart}
 use Rattle.diagnostics_blocks.specs.Modules.{bitOf}
+use Prim.Native.Nat.{ℕ}
+use Rattle.diagnostics_blocks.specs.Channel.{errorOf, typeOf}
+use native.Mathlib.Omega.{arith}
+use Rattle.diagnostics.specs.Blocks.{Block, RowBeyond, emptyDevice, emptyIdentifier, errorReserved, here, noDirection, secondIdentifier, typeInvalid}
+use Rattle.diagnostics.specs.Samples.{Beyond, BeyondTheStandard}
 use Rattle.diagnostics.specs.Store.{fillOf, walkedOf}
-use Rattle.diagnostics.specs.Walk.{atEnd, block, blockAt, bodyOf, deviceAt, headedBy, lengthOf, refusedAt, stepOf}
+use Rattle.diagnostics.specs.Walk.{Walk, atEnd, block, blockAt, bodyOf, deviceAt, headedBy, lengthOf, refusedAt, stepOf, walkOf, whole}
+use Rattle.diagnostics.proofs.RowWalked.{row-walked}
+use Rattle.diagnostics.proofs.StandardRows.{never-both, standard-row}
 
 -- bad input: what is kept and what is answered
 pub record BadInput : Type 0 where
@@ -43,3 +51,27 @@ bad-input = record {
   noSuchBody = refl;
   noSuchModule = refl;
 }
+
+-- bytes that are walked to blocks beyond the standard are no row of it
+beyond : {s : List ℕ} {bs : List Block} → walkOf s ≡ record { blocks = bs; ending = whole } → RowBeyond bs → Beyond s bs
+beyond {s} {bs} walked points =
+    record {
+      isWalked = walked;
+      noRow = λ cs row.
+          let same : cs ≡ bs = ap (λ (w : Walk). w .blocks) (sym (row-walked (standard-row row)) ∙ walked) in
+          never-both (rw same at row) points;
+    }
+
+pub beyond-the-standard : BeyondTheStandard
+unfolding walkOf stepOf headedBy blockAt lengthOf shownPart typeOf errorOf
+beyond-the-standard =
+    record {
+      typeZero = beyond refl (here (typeInvalid refl));
+      typeSeven = beyond refl (here (typeInvalid refl));
+      errorZero = beyond refl (here (errorReserved refl));
+      errorTen = beyond refl (here (errorReserved refl));
+      noDirection = beyond refl (here (noDirection refl refl));
+      emptyDevice = beyond refl (here emptyDevice);
+      emptyIdentifier = beyond refl (here emptyIdentifier);
+      secondIdentifier = beyond refl (secondIdentifier (omega arith));
+    }

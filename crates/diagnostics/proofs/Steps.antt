@@ -33,10 +33,16 @@ pub step-block : (s : List ℕ) (at header : ℕ) → at < length s → byteAt s
 step-block s at header inside head open₃ some fits =
     rw (step-inside s at inside, head) (headed-block s at header open₃ (λ e. omega arith) fits)
 
+-- why a header is refused, by the number
+pub data Why (s : List ℕ) (at : ℕ) : ℕ → Type 0 where
+  reserved : byteAt s at / 64 ≡ 3 → Why s at 13
+  zeroLong : (byteAt s at / 64 ≡ 3 → ⊥) → lengthOf (byteAt s at) ≡ 0 → Why s at 14
+  tooLong : (byteAt s at / 64 ≡ 3 → ⊥) → 1 ≤ lengthOf (byteAt s at) → length s < at + lengthOf (byteAt s at) → Why s at 12
+
 -- the three outcomes of a step
 pub data StepCase (s : List ℕ) (at : ℕ) : Type 0 where
   ended : length s ≤ at → stepOf s at ≡ record { answer = atEnd; cursor = at } → StepCase s at
-  refusal : at < length s → (n : ℕ) → 12 ≤ n → n ≤ 14 → stepOf s at ≡ refusedAt n (length s) → StepCase s at
+  refusal : at < length s → (n : ℕ) → Why s at n → stepOf s at ≡ refusedAt n (length s) → StepCase s at
   found : at < length s → (byteAt s at / 64 ≡ 3 → ⊥) → 1 ≤ lengthOf (byteAt s at) → at + lengthOf (byteAt s at) ≤ length s
       → stepOf s at ≡ record { answer = block (blockAt s at (byteAt s at)); cursor = at + lengthOf (byteAt s at) }
       → StepCase s at
@@ -45,14 +51,14 @@ module _ (s : List ℕ) (at : ℕ) where
   by-room : at < length s → (byteAt s at / 64 ≡ 3 → ⊥) → 1 ≤ lengthOf (byteAt s at) → Dec (at + lengthOf (byteAt s at) ≤ length s)
       → StepCase s at
   by-room h open₃ some (yes fits) = found h open₃ some fits (step-block s at _ h refl open₃ some fits)
-  by-room h open₃ some (no cut) = refusal h 12 (omega arith) (omega arith) (step-inside s at h ∙ headed-cut s at (byteAt s at) open₃ (λ e. omega arith) (omega arith))
+  by-room h open₃ some (no cut) = refusal h 12 (tooLong open₃ some (omega arith)) (step-inside s at h ∙ headed-cut s at (byteAt s at) open₃ (λ e. omega arith) (omega arith))
 
   by-length : at < length s → (byteAt s at / 64 ≡ 3 → ⊥) → Dec (1 ≤ lengthOf (byteAt s at)) → StepCase s at
   by-length h open₃ (yes some) = by-room h open₃ some (decLe _ _)
-  by-length h open₃ (no none) = refusal h 14 (omega arith) (omega arith) (step-inside s at h ∙ headed-zero s at (byteAt s at) open₃ (omega arith))
+  by-length h open₃ (no none) = refusal h 14 (zeroLong open₃ (omega arith)) (step-inside s at h ∙ headed-zero s at (byteAt s at) open₃ (omega arith))
 
   by-kind : at < length s → Dec (byteAt s at / 64 ≡ 3) → StepCase s at
-  by-kind h (yes reserved) = refusal h 13 (omega arith) (omega arith) (step-inside s at h ∙ headed-reserved s at _ reserved)
+  by-kind h (yes three) = refusal h 13 (reserved three) (step-inside s at h ∙ headed-reserved s at _ three)
   by-kind h (no open₃) = by-length h open₃ (decLe _ _)
 
   by-place : Dec (at < length s) → StepCase s at
@@ -64,7 +70,7 @@ module _ (s : List ℕ) (at : ℕ) where
 
 onward-by : {s : List ℕ} {at : ℕ} → StepCase s at → at < length s → Onward s at
 onward-by (ended past e) h = absurd (omega arith)
-onward-by (refusal _ n _ _ e) h = record { moves = rw e h; within = rw e (omega arith) }
+onward-by (refusal _ n _ e) h = record { moves = rw e h; within = rw e (omega arith) }
 onward-by (found _ _ some fits e) h = record { moves = rw e (omega arith); within = rw e fits }
 
 -- a step inside what is walked moves on by at least one byte, and not past the end
@@ -73,18 +79,23 @@ step-onward s at h = onward-by (step-case s at) h
 
 found-by : {s : List ℕ} {at : ℕ} {p : PlacedBlock} → StepCase s at → stepOf s at .answer ≡ block p → Onward s at
 found-by (ended past e) r = clash (cc)
-found-by (refusal h n _ _ e) r = clash (cc)
+found-by (refusal h n _ e) r = clash (cc)
 found-by (found h open₃ some fits e) r = onward-by (found h open₃ some fits e) h
 
 -- so does a step that finds a block: what a loop over the blocks ends by
 pub step-found : (s : List ℕ) (at : ℕ) (p : PlacedBlock) → stepOf s at .answer ≡ block p → Onward s at
 step-found s at p r = found-by (step-case s at) r
 
+why-number : {s : List ℕ} {at n : ℕ} → Why s at n → (12 ≤ n) × (n ≤ 14)
+why-number (reserved _) = omega arith
+why-number (zeroLong _ _) = omega arith
+why-number (tooLong _ _ _) = omega arith
+
 to-the-end-by : {s : List ℕ} {at : ℕ} (n : ℕ) → StepCase s at → stepOf s at .answer ≡ refused n → ToTheEnd s at n
 to-the-end-by n (ended past e) r = clash (cc)
-to-the-end-by n (refusal h m low high e) r =
+to-the-end-by n (refusal h m why e) r =
     let same : n ≡ m = cc in
-    record { inside = h; cursorAt = rw e; least = rw same low; most = rw same high }
+    record { inside = h; cursorAt = rw e; least = rw same (why-number why .0); most = rw same (why-number why .1) }
 to-the-end-by n (found h _ some fits e) r = clash (cc)
 
 -- a refused step: its number is 12, 13 or 14, and it moves the cursor to the end and nowhere else

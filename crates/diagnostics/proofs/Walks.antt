@@ -27,7 +27,7 @@ module _ (k : ℕ) (s : List ℕ) (at : ℕ) where
 enough-by : (k : ℕ) (s : List ℕ) (at : ℕ) → StepCase s at → ((next : ℕ) → at < next → walkSteps k s next ≡ walkSteps (suc k) s next)
     → walkSteps (suc k) s at ≡ walkSteps (suc (suc k)) s at
 enough-by k s at (ended _ e) later = walk-off k s at e ∙ sym (walk-off (suc k) s at e)
-enough-by k s at (refusal _ n _ _ e) later = walk-refused k s at n e ∙ sym (walk-refused (suc k) s at n e)
+enough-by k s at (refusal _ n _ e) later = walk-refused k s at n e ∙ sym (walk-refused (suc k) s at n e)
 enough-by k s at (found _ _ some _ e) later = walk-on k s at _ _ e ∙ rw (later (at + lengthOf (byteAt s at)) (omega arith)) (sym (walk-on (suc k) s at _ _ e))
 
 -- one step more changes nothing where there are more steps than bytes left

@@ -1,4 +1,5 @@
--- The demand leaves one station list: `one-station-list`. Whatever keeps it answers every question as ours does, after any row of calls.
+-- The demand leaves one station list: no two that keep it differ, after any row of calls, refused ones included, in what may be asked of them
+-- (`one-station-list`) or in what their calls answer (`one-answer`).
 use Prim.Native.Nat.{ℕ, _≤_, _<_}
 use mathlib.Core.Bool.{Bool, true, false}
 use mathlib.Core.Logic.{_⊎_, inl, inr, by-cases}
@@ -7,7 +8,7 @@ use native.Mathlib.Decide.{decLt}
 use native.Mathlib.Omega.{arith}
 use lib.Dec.{eqb}
 use Rattle.station_lists.proofs.OurStations.{ours, ours-is, passes-or-not}
-use Rattle.station_lists.specs.StationLists.{StationList, IsNext, lowestAbove, lowestOfAll, nobodyNext, IsPrevious, highestBelow, highestOfAll, nobodyPrevious, updatedSet, PassHolds, Reached, by-new, by-witness, by-claim, by-set-next, by-remove, Stays, Becomes, IsStationList, SameCalls, both-new, both-witness, both-claim, both-set-next, both-remove, SeenAlike}
+use Rattle.station_lists.specs.StationLists.{StationList, IsNext, lowestAbove, lowestOfAll, nobodyNext, IsPrevious, highestBelow, highestOfAll, nobodyPrevious, updatedSet, PassHolds, Reached, by-new, by-witness, by-claim, by-set-next, by-remove, Stays, Becomes, Fresh, IsStationList, SameCalls, both-new, both-witness, both-claim, both-set-next, both-remove, SeenAlike, AnswersAlike}
 use Rattle.ground.specs.Pick.{if}
 use Rattle.token_ring.proofs.Sets.{both}
 use Rattle.token_ring.specs.Meaning.{inGap}
@@ -75,14 +76,14 @@ module _ {S T : StationList} {r r′ : S .State} {s s′ : T .State} (alike : Se
       }
 
 left-reached : {S T : StationList} {r : S .State} {s : T .State} → SameCalls S T r s → Reached S r
-left-reached (both-new own h) = by-new own
+left-reached (both-new own) = by-new own
 left-reached (both-witness sa da w) = by-witness sa da (left-reached w)
 left-reached (both-claim w) = by-claim (left-reached w)
 left-reached (both-set-next a w) = by-set-next a (left-reached w)
 left-reached (both-remove a w) = by-remove a (left-reached w)
 
 right-reached : {S T : StationList} {r : S .State} {s : T .State} → SameCalls S T r s → Reached T s
-right-reached (both-new own h) = by-new own
+right-reached (both-new own) = by-new own
 right-reached (both-witness sa da w) = by-witness sa da (right-reached w)
 right-reached (both-claim w) = by-claim (right-reached w)
 right-reached (both-set-next a w) = by-set-next a (right-reached w)
@@ -138,7 +139,7 @@ module _ {S : StationList} (is : IsStationList S) {r : S .State} {s : TokenRing}
   claim-alike : SeenAlike S ours (S .claim r) (ours .claim s)
   claim-alike = stay-alike alike refl (is .claimed r (left-reached w)) (ours-is .claimed s (right-reached w))
 
-  set-next-alike : (a : ℕ) → SeenAlike S ours (S .setNext a r) (ours .setNext a s)
+  set-next-alike : (a : ℕ) → SeenAlike S ours (S .setNext a r .list) (ours .setNext a s .list)
   set-next-alike a =
       by-cases (decLt 125 a)
       (λ h. stay-alike alike (alike .phase) (is .nextRefused a r (left-reached w) h) (ours-is .nextRefused a s (right-reached w) h))
@@ -147,17 +148,15 @@ module _ {S : StationList} (is : IsStationList S) {r : S .State} {s : TokenRing}
       (λ b i. updatedSet (alike .own i) a (λ c. if (eqb c a) true (alike .active c i)) b)
       (is .nextSet a r (left-reached w) k) (ours-is .nextSet a s (right-reached w) k))
 
-  remove-alike : (a : ℕ) → SeenAlike S ours (S .remove a r) (ours .remove a s)
+  remove-alike : (a : ℕ) → SeenAlike S ours (S .remove a r .list) (ours .remove a s .list)
   remove-alike a =
       by-cases (decLt 125 a)
       (λ h. stay-alike alike (alike .phase) (is .removeRefused a r (left-reached w) h) (ours-is .removeRefused a s (right-reached w) h))
       (λ h. let k : a ≤ 125 = omega arith in
       become-alike alike (alike .phase) (λ b i. if (eqb b a) false (alike .active b i)) (is .removed a r (left-reached w) k) (ours-is .removed a s (right-reached w) k))
 
-fresh-alike : {S : StationList} (is : IsStationList S) (own : ℕ) → own ≤ 125 → SeenAlike S ours (S .new own) (ours .new own)
-fresh-alike is own h =
-    let x = is .fresh own h in
-    let y = ours-is .fresh own h in
+both-fresh : {S T : StationList} {own : ℕ} {r : S .State} {s : T .State} → Fresh S own r → Fresh T own s → SeenAlike S T r s
+both-fresh x y =
     record {
       active = λ a. x .active a ∙ sym (y .active a);
       own = x .own ∙ sym (y .own);
@@ -166,11 +165,64 @@ fresh-alike is own h =
       phase = x .phase ∙ sym (y .phase);
     }
 
--- Any station list that keeps the demand and ours are seen alike after the same calls.
-pub one-station-list : {S : StationList} (is : IsStationList S) {r : S .State} {s : TokenRing} → SameCalls S ours r s
+fresh-alike : {S : StationList} (is : IsStationList S) (own : ℕ) → SeenAlike S ours (S .new own .list) (ours .new own .list)
+fresh-alike is own =
+    by-cases (decLt 125 own)
+    (λ h. both-fresh (is .newRefused own h) (ours-is .newRefused own h))
+    (λ h. let k : own ≤ 125 = omega arith in both-fresh (is .fresh own k) (ours-is .fresh own k))
+
+-- a station list that keeps the demand and ours are seen alike after the same calls
+alike-ours : {S : StationList} (is : IsStationList S) {r : S .State} {s : TokenRing} → SameCalls S ours r s
     → SeenAlike S ours r s
-one-station-list is (both-new own h) = fresh-alike is own h
-one-station-list is (both-witness sa da w) = witness-alike is w (one-station-list is w) sa da
-one-station-list is (both-claim w) = claim-alike is w (one-station-list is w)
-one-station-list is (both-set-next a w) = set-next-alike is w (one-station-list is w) a
-one-station-list is (both-remove a w) = remove-alike is w (one-station-list is w) a
+alike-ours is (both-new own) = fresh-alike is own
+alike-ours is (both-witness sa da w) = witness-alike is w (alike-ours is w) sa da
+alike-ours is (both-claim w) = claim-alike is w (alike-ours is w)
+alike-ours is (both-set-next a w) = set-next-alike is w (alike-ours is w) a
+alike-ours is (both-remove a w) = remove-alike is w (alike-ours is w) a
+
+-- ---- any two lists
+
+-- the list of ours that the same calls made
+record InOurs (S T : StationList) (r : S .State) (s : T .State) : Type 0 where
+  list : TokenRing
+  left : SameCalls S ours r list
+  right : SameCalls T ours s list
+
+in-ours : {S T : StationList} {r : S .State} {s : T .State} → SameCalls S T r s → InOurs S T r s
+in-ours (both-new own) = record { list = ours .new own .list; left = both-new own; right = both-new own }
+in-ours (both-witness sa da w) =
+    let o = in-ours w in
+    record { list = ours .witness sa da (o .list); left = both-witness sa da (o .left); right = both-witness sa da (o .right) }
+in-ours (both-claim w) =
+    let o = in-ours w in record { list = ours .claim (o .list); left = both-claim (o .left); right = both-claim (o .right) }
+in-ours (both-set-next a w) =
+    let o = in-ours w in
+    record { list = ours .setNext a (o .list) .list; left = both-set-next a (o .left); right = both-set-next a (o .right) }
+in-ours (both-remove a w) =
+    let o = in-ours w in
+    record { list = ours .remove a (o .list) .list; left = both-remove a (o .left); right = both-remove a (o .right) }
+
+-- Two station lists that keep the demand are seen alike after the same calls.
+pub one-station-list : {S T : StationList} → IsStationList S → IsStationList T → {r : S .State} {s : T .State} → SameCalls S T r s
+    → SeenAlike S T r s
+one-station-list is other w =
+    let o = in-ours w in
+    let x = alike-ours is (o .left) in
+    let y = alike-ours other (o .right) in
+    record {
+      active = λ a. x .active a ∙ sym (y .active a);
+      own = x .own ∙ sym (y .own);
+      next = x .next ∙ sym (y .next);
+      previous = x .previous ∙ sym (y .previous);
+      phase = x .phase ∙ sym (y .phase);
+    }
+
+-- And their calls answer alike then.
+pub one-answer : {S T : StationList} → IsStationList S → IsStationList T → {r : S .State} {s : T .State} → SameCalls S T r s
+    → AnswersAlike S T r s
+one-answer is other w =
+    record {
+      new = λ own. is .newAnswers own ∙ sym (other .newAnswers own);
+      setNext = λ a. is .setNextAnswers a _ (left-reached w) ∙ sym (other .setNextAnswers a _ (right-reached w));
+      remove = λ a. is .removeAnswers a _ (left-reached w) ∙ sym (other .removeAnswers a _ (right-reached w));
+    }

@@ -8,7 +8,7 @@ use mathlib.Core.Option.{Option, none, some}
 use mathlib.Core.Path.{_≡_, refl, ap, _∙_}
 use native.Mathlib.Omega.{arith}
 use borrow.Author.Tests.{le-ltb, lt-ltb}
-use lib.Dec.{eqb}
+use lib.Dec.{eqb, lit≤}
 use lib.ListN.{length, set, replicate, length-set, length-replicate}
 use Rattle.station_lists.specs.StationLists.{StationList, IsNext, lowestAbove, lowestOfAll, nobodyNext, IsPrevious, highestBelow, highestOfAll, nobodyPrevious, updatedSet, PassHolds, Reached, by-new, by-witness, by-claim, by-set-next, by-remove, Stays, Becomes, Fresh, IsStationList}
 use Rattle.ground.specs.Pick.{if}
@@ -21,7 +21,7 @@ use Rattle.token_ring.specs.Flags as flags
 use Rattle.token_ring.specs.Flags.{active, lowestFrom}
 use Rattle.token_ring.specs.Meaning.{Sound}
 use Rattle.token_ring.specs.Rules as rules
-use Rattle.token_ring.specs.Rules.{wrap, passed, orElse, nextOf, previousOf, holds, fresh, made, inPhase, withFlags, updated, effectOf, effected, witnessed}
+use Rattle.token_ring.specs.Rules.{wrap, passed, orElse, nextOf, previousOf, holds, fresh, made, inPhase, stationAnswer, withFlags, updated, effectOf, effected, witnessed}
 use Rattle.token_ring.specs.declared.las_state.LasState.{LasState}
 use Rattle.token_ring.specs.declared.las_state.LasState.the-variants.{Uninitialized, Discovery, Verification, Valid}
 use Rattle.token_ring.specs.declared.ring.TokenRing.{TokenRing}
@@ -31,11 +31,11 @@ abbrev pub ours : StationList
 ours =
     record {
       State = TokenRing;
-      new = made;
+      new = λ own. record { answer = stationAnswer own; list = made own };
       witness = witnessed;
       claim = rules.claimed;
-      setNext = rules.nextSet;
-      remove = rules.removed;
+      setNext = λ a r. record { answer = stationAnswer a; list = rules.nextSet a r };
+      remove = λ a r. record { answer = stationAnswer a; list = rules.removed a r };
       active = λ r a. active (r .«active_stations») a;
       own = λ r. r .«this_station» .0;
       next = λ r. r .«next_station» .0;
@@ -164,21 +164,29 @@ module _ (sa da : ℕ) (r : TokenRing) (s : Sound r) (small : sa ≤ 125) (low :
 
 -- ---- the other calls
 
-fresh-is : (own : ℕ) → own ≤ 125 → Fresh ours own (made own)
-unfolding made fresh
+fresh-is : (own : ℕ) → own ≤ 125 → Fresh ours own (fresh own)
+unfolding fresh
 fresh-is own h =
-    rw (le-ltb 125 own h)
-    (record {
+    record {
       active = λ a. set-at (replicate 128 false) own true a (rw (length-replicate 128 false) (omega arith)) ∙ rw (clear-at a) (yes-no (eqb a own));
       own = refl;
       next = refl;
       previous = refl;
       phase = refl;
-    })
+    }
   where
     yes-no : (t : Bool) → if t true false ≡ t
     yes-no true = refl
     yes-no false = refl
+
+made-is : (own : ℕ) → own ≤ 125 → Fresh ours own (made own)
+unfolding made
+made-is own h = rw (le-ltb 125 own h) (fresh-is own h)
+
+-- beside the refusal stands the fresh list of address 0
+made-refused : (own : ℕ) → 125 < own → Fresh ours 0 (made own)
+unfolding made
+made-refused own h = rw (lt-ltb 125 own h) (fresh-is 0 (lit≤ tt))
 
 module _ (a : ℕ) (r : TokenRing) (s : Sound r) where
   set-next : a ≤ 125
@@ -223,7 +231,13 @@ passes-or-not sa da r w = by (holds sa da (r .«active_stations»)) refl
 pub ours-is : IsStationList ours
 ours-is =
     record {
-      fresh = fresh-is;
+      newAnswers = λ own. refl;
+      setNextAnswers = λ a r w. refl;
+      removeAnswers = λ a r w. refl;
+      newRefused = made-refused;
+      nextRefused = λ a r w h. set-next-refused a r (sound w) h;
+      removeRefused = λ a r w h. remove-refused a r (sound w) h;
+      fresh = made-is;
       ignored = λ sa da r w h. stays r _ (witnessed-ignored sa da r h);
       uninitialized = λ sa da r w h k e. in-uninitialized sa da r (sound w) h k e;
       discovery = λ sa da r w h k e. in-discovery sa da r (sound w) h k e;
@@ -232,7 +246,5 @@ ours-is =
       valid = λ sa da r w h k e. in-valid sa da r (sound w) h k e;
       claimed = λ r w. stays-in r Valid;
       nextSet = λ a r w h. set-next a r (sound w) h;
-      nextRefused = λ a r w h. set-next-refused a r (sound w) h;
       removed = λ a r w h. remove a r (sound w) h;
-      removeRefused = λ a r w h. remove-refused a r (sound w) h;
     }

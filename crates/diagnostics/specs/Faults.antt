@@ -16,7 +16,7 @@ pub record CutOff (s : List ℕ) : Type 0 where
   pub begun : 1 ≤ length s
   pub short : 1 ≤ length missing
 
--- Bytes that begin with a fault, by its number. No two of them fit the same bytes: no block has a header of 13 or 14.
+-- Bytes that begin with a fault, by its number. No two fit the same bytes (proofs/Theorems.antt: `one-fault`), so that there is no order among them.
 pub data Fault : List ℕ → ℕ → Type 0 where
   blockCutOff : {s : List ℕ} → CutOff s → Fault s 12
   -- top two header bits 11

@@ -1,5 +1,5 @@
--- What ends a walk before its bytes do. Document 01: "12, 13, 14 | block cut off; reserved header; length zero". Read `Fault` and `Broken`. The
--- standard has no such refusals: it has no block with one of these headers, and none that its telegram does not hold.
+-- What ends a walk before its bytes do. Document 01: "12, 13, 14 | block cut off; reserved header; length zero". Read `Fault` and `Broken`. What
+-- the standard says of bytes that are no row is not known here.
 use Prim.Native.Nat.{ℕ, _+_, _≤_, _<_}
 use mathlib.Core.List.{List, _∷_, _++_}
 use mathlib.Core.Path.{_≡_}

@@ -1,6 +1,5 @@
 -- Walks for which demand 2 is refuted. Each is any walk that has the fault.
 use Prim.Native.Nat.{ℕ, _≤_, _<_}
-use mathlib.Core.Bool.{true}
 use mathlib.Core.List.{List, [], _∷_}
 use mathlib.Core.Logic.{_⊎_, inl, inr}
 use mathlib.Core.Path.{_≡_, refl, ap, sym, _∙_}
@@ -11,7 +10,8 @@ use Rattle.diagnostics.specs.Blocks.{Block, BlocksSay, device, deviceSays, docu
 use Rattle.diagnostics.specs.Faults.{Broken, Fault, blockCutOff, deviceZero, identifierZero, reservedHeader}
 use Rattle.diagnostics.specs.Walk as walks
 use Rattle.diagnostics.specs.Walk.{Walk, broken}
-use Rattle.demand_2.proofs.ByteRows.{bytes, small}
+use Rattle.telegram.specs.Begins.{Bytes}
+use Rattle.demand_2.proofs.ByteRows.{bytes}
 use Rattle.demand_2.specs.Walks.{IsWalk}
 
 abbrev emptyDevice : List Block
@@ -80,9 +80,11 @@ module _ (walk : List ℕ → Walk) (is : IsWalk walk) where
       by (inr e) = let f = ap (λ (w : Walk). w .blocks) (sym e ∙ stops) in zero-one (cc)
 
   -- a walk that anywhere ends with another number than 12 to 14; and one that takes one of them for another
-  pub walk-has-another-number : (s : List ℕ) (bs : List Block) (n : ℕ) → walk s ≡ record { blocks = bs; ending = broken n } → small s ≡ true → (n < 12) ⊎ (14 < n) → ⊥
-  walk-has-another-number s bs n e byte (inl low) = let h = fault-number (is .faulted s bs n (bytes s byte) e .fault) in omega arith
-  walk-has-another-number s bs n e byte (inr high) = let h = fault-number (is .faulted s bs n (bytes s byte) e .fault) in omega arith
+  pub walk-has-another-number :
+      (s : List ℕ) (bs : List Block) (n : ℕ) → Bytes s → walk s ≡ record { blocks = bs; ending = broken n } → (n < 12) ⊎ (14 < n)
+      → ⊥
+  walk-has-another-number s bs n byte e (inl low) = let h = fault-number (is .faulted s bs n byte e .fault) in omega arith
+  walk-has-another-number s bs n byte e (inr high) = let h = fault-number (is .faulted s bs n byte e .fault) in omega arith
 
   pub walk-confuses-numbers : (n : ℕ) → (n ≡ 13 → ⊥) → walk thenReserved .ending ≡ broken n → ⊥
   walk-confuses-numbers n other e =

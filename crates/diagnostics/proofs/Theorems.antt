@@ -1,12 +1,13 @@
 -- The walk, the rows of specs/Blocks.antt and the faults of specs/Faults.antt, joined: `walk-exactly`, `fault-exactly`. Between them they speak of
--- every byte string: `row-or-fault`.
+-- every byte string (`row-or-fault`), and of none twice: `row-or-broken`, `one-fault`.
 use Prim.Native.Nat.{ℕ, _<_}
-use mathlib.Core.List.{List}
+use mathlib.Core.List.{List, []}
 use mathlib.Core.Logic.{_⊎_, inl, inr}
-use mathlib.Core.Path.{_≡_, ap}
+use mathlib.Core.Path.{_≡_, refl, ap, sym, _∙_}
+use Rattle.ground.proofs.Injective.{zero-one}
 use Rattle.ground.specs.Part.{byteAt}
-use Rattle.diagnostics.specs.Blocks.{Block, RowSays, document01}
-use Rattle.diagnostics.specs.Faults.{Broken}
+use Rattle.diagnostics.specs.Blocks.{Block, RowSays, document01, noBlock}
+use Rattle.diagnostics.specs.Faults.{Broken, Fault}
 use Rattle.diagnostics.specs.Walk.{Walk, broken, walkOf, whole}
 use Rattle.diagnostics.proofs.RowWalked.{fault-walked, row-walked}
 use Rattle.diagnostics.proofs.Steps.{clash}
@@ -49,3 +50,16 @@ row-or-fault s byte = by (walk-says s byte)
     by : {w : Walk} → Walked s w → ((bs : List Block) × RowSays document01 s bs) ⊎ ((bs : List Block) × (n : ℕ) × Broken s bs n)
     by (wholly {bs} says) = inl (bs, record { says = says; together = tt })
     by (brokenly {bs} {n} broke) = inr (bs, n, broke)
+
+-- No bytes are both.
+pub row-or-broken : {s : List ℕ} {bs cs : List Block} {n : ℕ} → RowSays document01 s bs → Broken s cs n → ⊥
+row-or-broken row broke = let ends = ap (λ (w : Walk). w .ending) (sym (row-walked row) ∙ fault-walked broke) in zero-one (cc)
+
+-- No bytes begin with two faults.
+pub one-fault : {s : List ℕ} {n m : ℕ} → Fault s n → Fault s m → n ≡ m
+one-fault {s} {n} {m} one other =
+    let ends = ap (λ (w : Walk). w .ending) (sym (fault-walked (at-once one)) ∙ fault-walked (at-once other)) in
+    cc
+  where
+    at-once : {k : ℕ} → Fault s k → Broken s [] k
+    at-once fault = record { front = []; rest = s; row = record { says = noBlock; together = tt }; fault = fault; bytes = refl }

@@ -1,5 +1,5 @@
--- What ends a walk before its bytes do. Document 01: "12, 13, 14 | block cut off; reserved header; length zero". Read `Fault` and `Broken`. The
--- standard has no such refusals: it has no block with one of these headers, and none that its telegram does not hold.
+-- What ends a walk before its bytes do. Document 01: "12, 13, 14 | block cut off; reserved header; length zero". Read `Fault` and `Broken`. What
+-- the standard says of bytes that are no row is not known here.
 use Prim.Native.Nat.{ℕ, _+_, _≤_, _<_}
 use mathlib.Core.List.{List, _∷_, _++_}
 use mathlib.Core.Path.{_≡_}
@@ -16,7 +16,7 @@ pub record CutOff (s : List ℕ) : Type 0 where
   pub begun : 1 ≤ length s
   pub short : 1 ≤ length missing
 
--- Bytes that begin with a fault, by its number. No two of them fit the same bytes: no block has a header of 13 or 14.
+-- Bytes that begin with a fault, by its number. No two fit the same bytes (proofs/Theorems.antt: `one-fault`), so that there is no order among them.
 pub data Fault : List ℕ → ℕ → Type 0 where
   blockCutOff : {s : List ℕ} → CutOff s → Fault s 12
   -- top two header bits 11

@@ -36,7 +36,12 @@ in-first-or-rest a rest b e = by (eqb b a) refl e
 
 -- 2, 5 or 9
 member : {P : Type 0} (b : ℕ) → isIn ring b ≡ true → (b ≡ 2 → P) → (b ≡ 5 → P) → (b ≡ 9 → P) → P
-member b e two five nine = ⊎-elim two (λ f. ⊎-elim five (λ g. ⊎-elim nine nobody (in-first-or-rest 9 [] b g)) (in-first-or-rest 5 (9 ∷ []) b f)) (in-first-or-rest 2 (5 ∷ 9 ∷ []) b e)
+member b e two five nine =
+    ⊎-elim two (λ f.
+    ⊎-elim five (λ g.
+    ⊎-elim nine nobody (in-first-or-rest 9 [] b g))
+    (in-first-or-rest 5 (9 ∷ []) b f))
+    (in-first-or-rest 2 (5 ∷ 9 ∷ []) b e)
   where
     nobody : {Q : Type 0} → false ≡ true → Q
     nobody h = absurd (zero-one (cc))

@@ -1,4 +1,5 @@
 -- `frame_long` meets its contract: each return is a case of steps 1 and 2; a length byte is below 256.
+use mathlib.Core.Path.{sym, _∙_}
 use native.Mathlib.Omega.{arith}
 use borrow.Author.Needs.{needs}
 use Rattle.telegram.proofs.FrameLaws.{six-framing, differ-framing, small-framing, lengths-framing}
@@ -9,12 +10,12 @@ under-six : tie.Need-returns
 under-six c = rw (six-framing _ (c .if1 .taken))
 
 lengths-differ : tie.Need-returns-2
-lengths-differ c = rw (differ-framing _ (c .before .before .before .if1 .left) (c .if2 .taken))
+lengths-differ c = sym (differ-framing _ (c .before .before .before .if1 .left) (c .if2 .taken))
 
 length-small : tie.Need-returns-3
 length-small c =
     let e = c .before in
-    rw (small-framing _ (e .before .before .before .if1 .left) (e .if2 .left) (c .if3 .taken))
+    sym (small-framing _ (e .before .before .before .if1 .left) (e .if2 .left) (c .if3 .taken))
 
 cast-frame-at : tie.Need-cast-frame-at
 cast-frame-at c = omega (arith, c .before .before .shared-slice-known3 .given 1)
@@ -26,7 +27,7 @@ frame : tie.Need-returns-4
 frame c =
     let f = c .before in
     let e = f .before in
-    rw (lengths-framing _ (e .before .before .before .if1 .left) (e .if2 .left) (f .if3 .left)) (c .frame-at .ensures)
+    c .frame-at .ensures ∙ sym (lengths-framing _ (e .before .before .before .if1 .left) (e .if2 .left) (f .if3 .left))
 
 pub frame-long-spec : {M : Type 1} → statement M
 frame-long-spec =

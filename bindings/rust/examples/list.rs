@@ -1,7 +1,7 @@
 //! Lists a capture with noise in it: a line for each telegram, and one for each run of bytes that begin none.
 //!
 //!     cargo run --example list -- FILE
-use koyandefa::{telegrams, End, Found, Telegram};
+use koyandefa::{telegrams, Found, Sap, Telegram};
 use std::process::exit;
 
 fn line(found: &Found) -> String {
@@ -10,7 +10,7 @@ fn line(found: &Found) -> String {
         Telegram::ShortConfirmation => "short confirmation".to_string(),
         Telegram::Token { da, sa } => format!("token {sa} to {da}"),
         Telegram::Data { header, pdu } => {
-            let sap = |sap: Option<koyandefa::Sap>| sap.map_or(String::new(), |sap| format!(":{sap}"));
+            let sap = |sap: Option<Sap>| sap.map_or(String::new(), |sap| format!(":{sap}"));
             let (from, to) = (sap(header.ssap), sap(header.dsap));
             format!("data {}{from} to {}{to}, {:?}, pdu {pdu:02X?}", header.sa, header.da, header.fc)
         }
@@ -22,16 +22,15 @@ fn line(found: &Found) -> String {
 fn list(capture: &[u8]) -> Vec<String> {
     let mut lines = Vec::new();
     let mut all = telegrams(capture);
-    loop {
+    while !all.rest().is_empty() {
         lines.extend((&mut all).map(|found| line(&found)));
         let (begin, end) = (all.at(), all.end());
-        if let End::Done { .. } = end {
-            return lines;
+        let noise = all.pass_over_noise();
+        if !noise.is_empty() {
+            lines.push(format!("{begin:5} {:3} bytes  noise, {end}", noise.len()));
         }
-        // Noise goes on until a telegram is found again.
-        while all.pass_over().is_some() && all.clone().next().is_none() {}
-        lines.push(format!("{begin:5} {:3} bytes  noise, {end}", all.at() - begin));
     }
+    lines
 }
 
 fn main() {

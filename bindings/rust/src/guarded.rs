@@ -17,7 +17,7 @@ mod tests;
 ///
 /// Stamps are the driver's own, at each end: of any clock or count that never goes back. Bytes count as received after a telegram was
 /// written only where their stamp is the greater one, so that the clock must tick between the two; a count that the driver steps at
-/// each event will do.
+/// each event will do. `now` of the ends' calls is the stamp of the call, by the same clock.
 #[derive(Clone, Copy, Debug, PartialEq, Eq, Hash)]
 pub struct Received<'a> {
     /// When the last byte came in.
@@ -27,7 +27,7 @@ pub struct Received<'a> {
 }
 
 /// The head end: [`Initiator`](crate::Initiator) with the stamp of its last telegram. Bytes that were not received after it are ignored:
-/// they can be no reply to it.
+/// they can be no reply to it. `now` is the stamp of a call, as [`Received`] says.
 ///
 /// It is moved and never copied, stored or loaded; keep one for a link. After a loss of power, or a new start of the program, make it
 /// with [`GuardedInitiator::new`]; where it is still there, call [`GuardedInitiator::restart`].
@@ -254,7 +254,7 @@ impl fmt::Display for NotTaken {
 impl std::error::Error for NotTaken {}
 
 /// The cabinet's end: [`Responder`](crate::Responder) with the stamp of its last telegram, and the number of the order that it handed up
-/// last.
+/// last. `now` is the stamp of a call, as [`Received`] says.
 ///
 /// It is moved and never copied, stored or loaded; keep one for a link. After a loss of power, or a new start of the program, make it
 /// with [`GuardedResponder::new`]; where it is still there, call [`GuardedResponder::restart`]. [`GuardedInitiator`] shows an order
@@ -279,7 +279,7 @@ impl GuardedResponder {
         Ok(GuardedResponder { state, guard, end: ENDS.fetch_add(1, Ordering::Relaxed) })
     }
 
-    /// These bytes were received. Refusal 10.
+    /// These bytes were received: an opening or a repeat is answered at once, a new order is handed up, once. Refusal 10.
     pub fn hear<'buf>(&mut self, heard: Received<'_>, now: usize, buf: &'buf mut [u8]) -> Result<Heard<'buf>, Refusal> {
         let mut told = [0; 3];
         let code = unsafe {

@@ -3,7 +3,8 @@
 //! which are written in Rattle; every call is proved to answer every input as document 01 says. No dependencies, and no std; the feature
 //! `std`, which is on unless `default-features = false` is said, adds `std::error::Error` to the refusals.
 //!
-//! A refused call returns the [`Refusal`] with document 01's number and leaves all that it was lent as it came.
+//! A refused call returns the [`Refusal`] with document 01's number and leaves all that it was lent as it came. ("Document 01" is the paper
+//! of scope and precise rules that the functions are proved against. What a driver needs of it is said here.)
 //!
 //! | to | take |
 //! |---|---|

@@ -88,8 +88,8 @@ pub(crate) fn show_initiator<'a, 'b>(
     f: &'b mut fmt::Formatter<'a>,
 ) -> fmt::DebugStruct<'b, 'a> {
     let (phase, pending) = match state[3] {
-        1 => ("open, next under Low", false),
-        2 => ("open, next under High", false),
+        1 => ("open (next under Low)", false),
+        2 => ("open (next under High)", false),
         3 => ("opening", true),
         4 => ("order sent under Low", true),
         5 => ("order sent under High", true),

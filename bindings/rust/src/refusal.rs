@@ -106,6 +106,11 @@ impl Refusal {
         ALL.iter().map(|&(refusal, _)| refusal).find(|refusal| refusal.number() == number)
     }
 
+    /// When it is given.
+    pub(crate) fn words(self) -> &'static str {
+        ALL[usize::from(self.number()) - 1].1
+    }
+
     // The library returns no other number than its promise says, so the panic is never met.
     pub(crate) fn of_code(code: u8) -> Refusal {
         Refusal::of(code).unwrap_or_else(|| panic!("code {code} is no refusal"))
@@ -123,8 +128,7 @@ pub(crate) fn done(code: u8) -> Result<(), Refusal> {
 /// The number, and when document 01 gives it, in words.
 impl fmt::Display for Refusal {
     fn fmt(&self, f: &mut fmt::Formatter<'_>) -> fmt::Result {
-        let (_, words) = ALL[usize::from(self.number()) - 1];
-        write!(f, "refused {}: {words}", self.number())
+        write!(f, "refused {}: {}", self.number(), self.words())
     }
 }
 

@@ -219,7 +219,7 @@ impl fmt::Display for End {
         match *self {
             End::Done { at } => write!(f, "done at {at}"),
             End::Incomplete { at } => write!(f, "incomplete at {at}"),
-            End::Refused { at, refusal } => write!(f, "at {at} {refusal}"),
+            End::Refused { at, refusal } => write!(f, "refused {} at {at}: {}", refusal.number(), refusal.words()),
         }
     }
 }
@@ -250,7 +250,29 @@ impl fmt::Display for End {
 /// ```
 ///
 /// Noise may look like the beginning of a telegram of up to 261 bytes. Where nothing more can come, since the line is idle or the capture
-/// is at its end, pass over incomplete bytes too: what stands behind them may be whole telegrams.
+/// is at its end, incomplete bytes are passed over too: what stands behind them may be whole telegrams. Then
+/// [`pass_over_noise`](Telegrams::pass_over_noise) does it all:
+///
+/// ```
+/// # use koyandefa::{telegrams, End};
+/// let capture = [0x68, 0xFF, 0xFF, 0x68, 0xE5, 0xDC, 0x05, 0x02, 0xDC];
+/// let mut lines = Vec::new();
+/// let mut all = telegrams(&capture);
+/// while !all.rest().is_empty() {
+///     for found in &mut all {
+///         lines.push(format!("{}: {:?}", found.at, found.telegram));
+///     }
+///     let end = all.end();
+///     let noise = all.pass_over_noise();
+///     if !noise.is_empty() {
+///         lines.push(format!("{} bytes of noise: {end}", noise.len()));
+///     }
+/// }
+/// assert_eq!(lines[0], "4 bytes of noise: incomplete at 0");
+/// assert_eq!(lines[1], "4: ShortConfirmation");
+/// assert_eq!(lines[3], "1 bytes of noise: incomplete at 8");
+/// assert_eq!(all.end(), End::Done { at: 9 });
+/// ```
 #[must_use]
 #[derive(Clone)]
 pub struct Telegrams<'a> {
@@ -283,11 +305,19 @@ impl<'a> Telegrams<'a> {
         }
     }
 
-    /// Passes over one byte, and gives it: nothing where no byte is left.
+    /// Passes over one byte, and gives it: nothing where no byte is left. For bytes to which more may come.
     pub fn pass_over(&mut self) -> Option<u8> {
         let passed = self.rest().first().copied()?;
         self.at += 1;
         Some(passed)
+    }
+
+    /// Passes over all bytes up to the next whole telegram, or to the last byte, and gives them. For bytes to which nothing more can come:
+    /// incomplete ones are passed over too.
+    pub fn pass_over_noise(&mut self) -> &'a [u8] {
+        let begin = self.at;
+        while self.clone().next().is_none() && self.pass_over().is_some() {}
+        &self.bytes[begin..self.at]
     }
 }
 

@@ -63,7 +63,7 @@ fn the_telegrams_of_a_byte_string() {
     assert_eq!(telegrams(&[]).end(), End::Done { at: 0 });
     let refused = telegrams(&[0xE5, 0xE5, 0xFF]).end();
     assert_eq!(refused, End::Refused { at: 2, refusal: Refusal::UnknownStart });
-    assert_eq!(refused.to_string(), "at 2 refused 1: the first byte begins no telegram");
+    assert_eq!(refused.to_string(), "refused 1 at 2: the first byte begins no telegram");
     let mut walk = telegrams(&bytes);
     assert_eq!(walk.next().map(|found| found.at), Some(0));
     assert_eq!((walk.at(), walk.rest(), walk.end()), (1, &bytes[1..], End::Done { at: 10 }));
@@ -87,6 +87,14 @@ fn the_way_back_after_noise() {
     }
     assert_eq!((found, noise), (vec![1, 5], vec![0x00, 0x68, 0xFF, 0xFF, 0x16, 0xA2]));
     assert_eq!((all.at(), all.rest().len(), all.end()), (10, 0, End::Done { at: 10 }));
+    let mut all = telegrams(&bytes);
+    let mut noise = vec![all.pass_over_noise()];
+    assert_eq!(all.pass_over_noise(), [], "a telegram begins here");
+    while all.next().is_some() {
+        noise.push(all.pass_over_noise());
+    }
+    assert_eq!(noise, [&bytes[..1], &bytes[2..5], &bytes[8..]]);
+    assert_eq!((all.pass_over_noise(), all.end()), (&[][..], End::Done { at: 10 }));
 }
 
 #[test]

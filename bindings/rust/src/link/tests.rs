@@ -130,7 +130,7 @@ fn what_is_shown() {
     let mut link = Link::new();
     assert_eq!(
         format!("{:?}", link.initiator),
-        "Initiator { own: 2, peer: 5, tries: 2, phase: open, next under High }"
+        "Initiator { own: 2, peer: 5, tries: 2, phase: open (next under High) }"
     );
     assert_eq!(
         format!("{:?}", link.responder),

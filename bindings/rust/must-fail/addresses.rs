@@ -12,8 +12,6 @@ pub fn header(station: Address, sap: Sap, fc: FunctionCode) -> Header {
     let header = Header { da: station, sa: station, dsap: Some(station), ssap: None, fc };
     #[cfg(wrong = "number_as_address")] // E0308
     let header = Header { da: 5, sa: station, dsap: None, ssap: None, fc };
-    #[cfg(wrong = "byte_as_function_code")] // E0308
-    let header = Header { da: station, sa: station, dsap: None, ssap: None, fc: 0x49 };
     Header { da: station, sa: station, dsap: Some(sap), ssap: Some(sap), fc }
 }
 

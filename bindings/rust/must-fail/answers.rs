@@ -1,6 +1,6 @@
-//! Wrong programs: drivers that drop what became of an order, an order to be carried out, or a telegram to be sent. `run` has this file
-//! compiled with each `wrong` below, which must be refused with the error named beside it and no other, and without any, which must be
-//! taken.
+//! Wrong programs: drivers that drop what became of an order, an order to be carried out, or a telegram to be sent, and such that use a
+//! buffer again before what it holds was taken. `run` has this file compiled with each `wrong` below, which must be refused with the error
+//! named beside it and no other, and without any, which must be taken.
 #![deny(unused_must_use)]
 use koyandefa::{
     telegrams, write_data, End, GuardedInitiator, GuardedResponder, HandUp, Header, Heard, Initiator, InitiatorAnswer,
@@ -18,6 +18,23 @@ pub fn head_end(initiator: &mut GuardedInitiator, heard: Received) -> Result<boo
     initiator.silence(3, &mut [0; ROOM])?;
     let unknown = matches!(initiator.restart(), InitiatorAnswer::Unknown { .. });
     Ok(unknown || initiator.hear(heard, 4, &mut [0; ROOM])? == InitiatorAnswer::Nothing)
+}
+
+/// The telegram to be sent stands in `buf`, the reply in `received`.
+pub fn buffers(initiator: &mut GuardedInitiator, received: &mut [u8], buf: &mut [u8]) -> Result<usize, Refusal> {
+    let answer = initiator.hear(Received { at: 1, bytes: received }, 2, buf)?;
+    #[cfg(wrong = "receive_buffer_used_too_early")] // E0502
+    received.fill(0);
+    #[cfg(wrong = "buffer_used_too_early")] // E0499
+    buf.fill(0);
+    let len = match answer {
+        InitiatorAnswer::Sent(telegram) => telegram.len(),
+        InitiatorAnswer::Confirmed { reply, .. } => reply.len(),
+        _ => 0,
+    };
+    received.fill(0);
+    buf.fill(0);
+    Ok(len)
 }
 
 pub fn cabinet(responder: &mut GuardedResponder, heard: Received) -> Result<Option<HandUp>, Refusal> {

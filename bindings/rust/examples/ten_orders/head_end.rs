@@ -67,7 +67,7 @@ impl HeadEnd {
 
     /// What each answer asks of the driver: rule 6.
     fn acts(&mut self, now: usize, answer: InitiatorAnswer, line: &mut Line) -> Option<Outcome> {
-        match answer {
+        let outcome = match answer {
             InitiatorAnswer::Sent(telegram) => {
                 self.receiver.clear();
                 line.send(now, Station::Cabinet, telegram);
@@ -76,13 +76,11 @@ impl HeadEnd {
             }
             // Not for us, or not awaited: the slot time goes on.
             InitiatorAnswer::Nothing => return None,
-            _ => self.timer = None,
-        }
-        match answer {
-            InitiatorAnswer::Confirmed { reply, tries } => Some(Outcome::Confirmed { reply: reply.to_vec(), tries }),
-            InitiatorAnswer::NotSent { tries } => Some(Outcome::NotSent { tries }),
-            InitiatorAnswer::Unknown { tries } => Some(Outcome::Unknown { tries }),
-            InitiatorAnswer::Sent(_) | InitiatorAnswer::Nothing => None,
-        }
+            InitiatorAnswer::Confirmed { reply, tries } => Outcome::Confirmed { reply: reply.to_vec(), tries },
+            InitiatorAnswer::NotSent { tries } => Outcome::NotSent { tries },
+            InitiatorAnswer::Unknown { tries } => Outcome::Unknown { tries },
+        };
+        self.timer = None;
+        Some(outcome)
     }
 }

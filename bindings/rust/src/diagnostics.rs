@@ -21,7 +21,7 @@ pub enum Block<'a> {
         /// It is an output.
         output: bool,
         /// The type of its data.
-        dtype: ChannelType,
+        dtype: ChannelDataType,
         /// What is wrong.
         error: ChannelError,
     },
@@ -29,7 +29,7 @@ pub enum Block<'a> {
 
 /// The type of a channel's data.
 #[derive(Clone, Copy, Debug, PartialEq, Eq, Hash)]
-pub enum ChannelType {
+pub enum ChannelDataType {
     /// One bit, number 1.
     Bit,
     /// Two bits, 2.
@@ -73,16 +73,16 @@ pub enum ChannelError {
     Vendor(u8),
 }
 
-impl ChannelType {
-    fn of(number: usize) -> ChannelType {
+impl ChannelDataType {
+    fn of(number: usize) -> ChannelDataType {
         match number {
-            1 => ChannelType::Bit,
-            2 => ChannelType::Bit2,
-            3 => ChannelType::Bit4,
-            4 => ChannelType::Byte,
-            5 => ChannelType::Word,
-            6 => ChannelType::DWord,
-            _ => ChannelType::Invalid,
+            1 => ChannelDataType::Bit,
+            2 => ChannelDataType::Bit2,
+            3 => ChannelDataType::Bit4,
+            4 => ChannelDataType::Byte,
+            5 => ChannelDataType::Word,
+            6 => ChannelDataType::DWord,
+            _ => ChannelDataType::Invalid,
         }
     }
 }
@@ -108,7 +108,7 @@ impl ChannelError {
 /// The walk over the first `walked` bytes of a store, block by block. A refusal, 12 to 14, ends it.
 ///
 /// ```
-/// # use koyandefa::{fill, modules, Block, ChannelError, ChannelType, Refusal, Walk};
+/// # use koyandefa::{fill, modules, Block, ChannelError, ChannelDataType, Refusal, Walk};
 /// let mut store = [0; 64];
 /// let walked = fill(&mut store, &[0x42, 0x05, 0x83, 0xC1, 0x26, 0x40]).expect("they fit");
 /// let mut walk = Walk::new(&store, walked);
@@ -117,7 +117,7 @@ impl ChannelError {
 ///     other => panic!("{other:?}"),
 /// }
 /// match walk.next() {
-///     Some(Ok(Block::Channel { module: 3, channel: 1, dtype: ChannelType::Bit, error: ChannelError::LineBreak, .. })) => {}
+///     Some(Ok(Block::Channel { module: 3, channel: 1, dtype: ChannelDataType::Bit, error: ChannelError::LineBreak, .. })) => {}
 ///     other => panic!("{other:?}"),
 /// }
 /// assert_eq!(walk.next(), Some(Err(Refusal::BlockLengthZero)));
@@ -163,7 +163,7 @@ impl<'a> Iterator for Walk<'a> {
                     channel: channel as u8,
                     input: input == 1,
                     output: output == 1,
-                    dtype: ChannelType::of(dtype),
+                    dtype: ChannelDataType::of(dtype),
                     error: ChannelError::of(error as u8),
                 },
             })),

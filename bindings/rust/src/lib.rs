@@ -53,7 +53,7 @@ mod stations;
 mod telegram;
 
 pub use address::{Address, Sap};
-pub use diagnostics::{fill, module_is_set, modules, Block, ChannelError, ChannelType, Walk};
+pub use diagnostics::{fill, module_is_set, modules, Block, ChannelDataType, ChannelError, Walk};
 pub use function_code::{FrameCountBit, FunctionCode, RequestType, ResponseState, ResponseStatus};
 pub use guarded::{GuardedInitiator, GuardedResponder, HandUp, Heard, NotTaken, Received};
 pub use link::{Initiator, InitiatorAnswer, Responder, ResponderAnswer, DEFAULT_TRIES, LONGEST_ORDER, ROOM};

@@ -178,7 +178,7 @@ fn any_bytes_are_a_station_list() {
 fn diagnostics_samples() {
     let bytes = [0x42, 0x05, 0x83, 0xC1, 0x26, 0x01];
     let blocks: Vec<_> = Walk::new(&bytes, 99).map(Result::unwrap).collect();
-    let (dtype, error) = (ChannelType::Bit, ChannelError::LineBreak);
+    let (dtype, error) = (ChannelDataType::Bit, ChannelError::LineBreak);
     let channel = Block::Channel { module: 3, channel: 1, input: true, output: true, dtype, error };
     assert_eq!(blocks, [Block::Identifier(&bytes[1..2]), channel, Block::Device(&[])]);
     assert_eq!((0..9).filter(|&module| module_is_set(&bytes[1..2], module)).collect::<Vec<_>>(), [0, 2]);
@@ -202,8 +202,8 @@ fn diagnostics_samples() {
 /// Document 01's numbers of a channel's type and error, for every third byte.
 #[test]
 fn channel_types_and_errors() {
+    use ChannelDataType::*;
     use ChannelError::*;
-    use ChannelType::*;
     let types = [Invalid, Bit, Bit2, Bit4, Byte, Word, DWord, Invalid];
     let named = [
         ShortCircuit,

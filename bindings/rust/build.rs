@@ -1,5 +1,5 @@
 // Links libexports.a and libexports_link.a. KOYANDEFA_LIB names their folder; without it the one that `bindings/archives` writes
-// to is taken.
+// to is taken. They become a part of the library's rlib, so that programs, tests and doctests that use the crate need nothing else.
 use std::path::PathBuf;
 
 fn main() {
@@ -13,7 +13,9 @@ fn main() {
         let archive = folder.join(format!("lib{name}.a"));
         println!("cargo:rerun-if-changed={}", archive.display());
         if !archive.exists() {
-            panic!("there is no {}: run `bindings/archives`, or set KOYANDEFA_LIB", archive.display());
+            eprintln!("there is no {}", archive.display());
+            eprintln!("run bindings/archives, which makes both archives, or let KOYANDEFA_LIB name the folder that they are in");
+            std::process::exit(1);
         }
         println!("cargo:rustc-link-lib=static={name}");
     }

@@ -1,8 +1,7 @@
 //! A whole order through both ends of the link, then one whose reply is lost: the same as bindings/c/example.c, and it prints
 //! the same.
 use koyandefa::{
-    GuardedInitiator, GuardedResponder, Heard, InitiatorAnswer, NotTaken, Received, Refusal, Settings,
-    LONGEST_TELEGRAM, ROOM,
+    GuardedInitiator, GuardedResponder, Heard, InitiatorAnswer, Received, Refusal, Settings, LONGEST_TELEGRAM, ROOM,
 };
 
 struct Bus {
@@ -33,52 +32,60 @@ impl Bus {
 
     fn head_end_sends(
         &mut self,
-        call: impl Fn(&mut GuardedInitiator, Received, &mut [u8]) -> Result<InitiatorAnswer, Refusal>,
+        call: impl for<'heard, 'buf> Fn(
+            &mut GuardedInitiator,
+            Received<'heard>,
+            &'buf mut [u8],
+        ) -> Result<InitiatorAnswer<'heard, 'buf>, Refusal>,
     ) -> Result<(), Refusal> {
         let mut buf = [0; ROOM];
         let heard = Received { at: self.now(), bytes: &self.line[..self.line_len] };
-        let InitiatorAnswer::Sent(len) = call(&mut self.initiator, heard, &mut buf)? else {
-            panic!("nothing was sent")
-        };
-        self.on_the_line("head end", &buf[..len]);
+        match call(&mut self.initiator, heard, &mut buf)? {
+            InitiatorAnswer::Sent(telegram) => self.on_the_line("head end", telegram),
+            other => panic!("nothing was sent: {other:?}"),
+        }
         Ok(())
     }
 
-    fn cabinet_hears(&mut self, buf: &mut [u8; ROOM]) -> Result<Heard, Refusal> {
+    fn cabinet_hears<'buf>(&mut self, buf: &'buf mut [u8; ROOM]) -> Result<Heard<'buf>, Refusal> {
         let now = self.now();
         self.responder.hear(Received { at: now, bytes: &self.line[..self.line_len] }, now, buf)
     }
 
     fn cabinet_sends(&mut self) -> Result<(), Refusal> {
         let mut buf = [0; ROOM];
-        let Heard::Sent(len) = self.cabinet_hears(&mut buf)? else { panic!("nothing was sent") };
-        self.on_the_line(" cabinet", &buf[..len]);
+        match self.cabinet_hears(&mut buf)? {
+            Heard::Sent(telegram) => self.on_the_line(" cabinet", telegram),
+            other => panic!("nothing was sent: {other:?}"),
+        }
         Ok(())
     }
 
     /// The cabinet hears an order and answers it with one byte more than it got; to an order of 246 bytes that would be refused, 9.
     fn carry_out(&mut self) -> Result<(), Refusal> {
         let mut buf = [0; ROOM];
-        let Heard::HandedUp(order) = self.cabinet_hears(&mut buf)? else { panic!("no order") };
+        let order = match self.cabinet_hears(&mut buf)? {
+            Heard::HandedUp(order) => order,
+            other => panic!("no order: {other:?}"),
+        };
         println!(" cabinet carries out {} bytes", order.order().len());
         let mut reply = order.order().to_vec();
         reply.push(0x06);
         let now = self.now();
-        match self.responder.answer(order, now, &reply, &mut buf) {
-            Ok(len) => self.on_the_line(" cabinet", &buf[..len]),
-            Err(NotTaken::Again(refusal, _order)) => return Err(refusal),
-            Err(NotTaken::NoReplyOwed) => return Err(Refusal::NoReplyOwed),
-        }
+        let telegram = self.responder.answer(order, now, &reply, &mut buf).map_err(|not_taken| not_taken.refusal())?;
+        self.on_the_line(" cabinet", telegram);
         Ok(())
     }
 
     fn confirmed(&mut self) -> Result<(), Refusal> {
         let now = self.now();
         let heard = Received { at: now, bytes: &self.line[..self.line_len] };
-        let InitiatorAnswer::Confirmed { reply, tries } = self.initiator.hear(heard, now, &mut [0; ROOM])? else {
-            panic!("not confirmed")
-        };
-        println!("head end: confirmed after {tries} tries, reply of {} bytes", reply.len());
+        match self.initiator.hear(heard, now, &mut [0; ROOM])? {
+            InitiatorAnswer::Confirmed { reply, tries } => {
+                println!("head end: confirmed after {tries} tries, reply of {} bytes", reply.len());
+            }
+            other => panic!("not confirmed: {other:?}"),
+        }
         Ok(())
     }
 }

@@ -35,7 +35,7 @@ pub fn driver(mut initiator: Initiator, mut responder: Responder) {
         threads.spawn(|| responder.restart());
         threads.spawn(|| responder.restart());
     });
-    initiator.restart();
+    let _ = initiator.restart();
     responder.restart();
 }
 
@@ -54,7 +54,7 @@ pub fn guarded_driver(mut initiator: GuardedInitiator, mut responder: GuardedRes
     let mut responder = GuardedResponder { state: [0; 250], guard: [0; 2], end: 0 };
     #[cfg(wrong = "guard_copied")] // E0616
     let old = responder.guard;
-    initiator.restart();
+    let _ = initiator.restart();
     responder.restart();
 }
 

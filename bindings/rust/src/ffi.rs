@@ -1,5 +1,10 @@
 //! The functions of libexports.a and libexports_link.a as Rattle exports them. tests/drift.rs holds this file and the C header
 //! against the source.
+//!
+//! Why the wrapper's calls of them are safe: each is proved to answer every number, length and content, and owes what memcpy owes. A
+//! pointer and a length are those of one slice, which is there, and whose pointer is not null where it is empty; an array is lent by
+//! reference; what is written to is borrowed as `&mut`, so that it overlaps nothing else. What is told lies within what was lent, by the
+//! calls' promises, so that no slicing of the wrapper's panics.
 #![allow(dead_code)]
 
 pub const KOY_DONE: u8 = 0;

@@ -1,70 +1,114 @@
 //! Document 01's refusals.
-use std::fmt;
+use core::fmt;
 
-/// Why a call was refused, with document 01's number.
+/// Why a call was refused, with document 01's number. More may come with later requests.
+///
+/// ```
+/// # use koyandefa::Refusal;
+/// let refusal = koyandefa::read(&[0x68, 3, 4, 0, 0, 0]).unwrap_err();
+/// assert_eq!((refusal, refusal.number()), (Refusal::LengthsDiffer, 2));
+/// assert_eq!(refusal.to_string(), "refused 2: second and third byte of an SD2 telegram differ");
+/// ```
 #[derive(Clone, Copy, Debug, PartialEq, Eq, Hash)]
 #[repr(u8)]
+#[non_exhaustive]
 pub enum Refusal {
+    /// 1, reading: the first byte begins no telegram.
     UnknownStart = 1,
+    /// 2, reading: second and third byte of an SD2 telegram differ.
     LengthsDiffer = 2,
+    /// 3, reading: the length byte of an SD2 telegram is below 3.
     LengthTooSmall = 3,
+    /// 4: the byte is no function code.
     FunctionCode = 4,
+    /// 5, reading: a SAP that an address announces is missing.
     SapMissing = 5,
+    /// 6, reading: the checksum is another.
     Checksum = 6,
+    /// 7, reading: the last byte is no end delimiter.
     EndDelimiter = 7,
+    /// 8, writing data: da or sa is above 127.
     AddressTooLarge = 8,
+    /// 9: the length byte is above 249, or a link reply above 246 bytes.
     TooLong = 9,
+    /// 10: the buffer is too short; link calls that may write want [`ROOM`](crate::ROOM), 255 bytes.
     NoRoom = 10,
+    /// 11: the own, set or removed address is above 125.
     NotAStation = 11,
+    /// 12, diagnostics: the block is cut off.
     BlockCutOff = 12,
+    /// 13, diagnostics: the block's header is reserved.
     BlockReserved = 13,
+    /// 14, diagnostics: the block's length is zero.
     BlockLengthZero = 14,
+    /// 15: an inactive frame count bit is not cycled. No call of this crate gives it.
     CycleInactive = 15,
+    /// 16: the order is empty or above 246 bytes.
     OrderLength = 16,
+    /// 17: an order is already pending.
     OrderPending = 17,
+    /// 18: a link address is above 125, or both are equal.
     LinkAddresses = 18,
+    /// 19: the tries are outside 1 to 8.
     Tries = 19,
+    /// 20: the settings text has another form.
     SettingsForm = 20,
+    /// 21: an answer is given where none is owed, or for another order.
     NoReplyOwed = 21,
+    /// 22: the lister's input is above 4,096 bytes. No call of this crate gives it.
     InputTooLong = 22,
 }
 
 use Refusal::*;
 
-const ALL: [Refusal; 22] = [
-    UnknownStart,
-    LengthsDiffer,
-    LengthTooSmall,
-    FunctionCode,
-    SapMissing,
-    Checksum,
-    EndDelimiter,
-    AddressTooLarge,
-    TooLong,
-    NoRoom,
-    NotAStation,
-    BlockCutOff,
-    BlockReserved,
-    BlockLengthZero,
-    CycleInactive,
-    OrderLength,
-    OrderPending,
-    LinkAddresses,
-    Tries,
-    SettingsForm,
-    NoReplyOwed,
-    InputTooLong,
+/// Every refusal in the order of its number, with its words.
+const ALL: [(Refusal, &str); 22] = [
+    (UnknownStart, "the first byte begins no telegram"),
+    (LengthsDiffer, "second and third byte of an SD2 telegram differ"),
+    (LengthTooSmall, "the length byte of an SD2 telegram is below 3"),
+    (FunctionCode, "the byte is no function code"),
+    (SapMissing, "a SAP that an address announces is missing"),
+    (Checksum, "the checksum is another"),
+    (EndDelimiter, "the last byte is no end delimiter"),
+    (AddressTooLarge, "da or sa is above 127"),
+    (TooLong, "the length byte is above 249, or a link reply above 246 bytes"),
+    (NoRoom, "the buffer is too short; link calls that may write want 255 bytes"),
+    (NotAStation, "the own, set or removed address is above 125"),
+    (BlockCutOff, "the block is cut off"),
+    (BlockReserved, "the block's header is reserved"),
+    (BlockLengthZero, "the block's length is zero"),
+    (CycleInactive, "an inactive frame count bit is not cycled"),
+    (OrderLength, "the order is empty or above 246 bytes"),
+    (OrderPending, "an order is already pending"),
+    (LinkAddresses, "a link address is above 125, or both are equal"),
+    (Tries, "the tries are outside 1 to 8"),
+    (SettingsForm, "the settings text has another form"),
+    (NoReplyOwed, "an answer is given where none is owed, or for another order"),
+    (InputTooLong, "the lister's input is above 4,096 bytes"),
 ];
 
 impl Refusal {
     /// Document 01's number, 1 to 22.
-    pub fn number(self) -> u8 {
+    #[must_use]
+    pub const fn number(self) -> u8 {
         self as u8
     }
 
     /// The refusal of a number.
+    ///
+    /// ```
+    /// # use koyandefa::Refusal;
+    /// assert_eq!(Refusal::of(6), Some(Refusal::Checksum));
+    /// assert_eq!(Refusal::of(0), None);
+    /// ```
+    #[must_use]
     pub fn of(number: u8) -> Option<Refusal> {
-        ALL.iter().copied().find(|refusal| refusal.number() == number)
+        ALL.iter().map(|&(refusal, _)| refusal).find(|refusal| refusal.number() == number)
+    }
+
+    /// When it is given.
+    pub(crate) fn words(self) -> &'static str {
+        ALL[usize::from(self.number()) - 1].1
     }
 
     // The library returns no other number than its promise says, so the panic is never met.
@@ -81,10 +125,12 @@ pub(crate) fn done(code: u8) -> Result<(), Refusal> {
     }
 }
 
+/// The number, and when document 01 gives it, in words.
 impl fmt::Display for Refusal {
     fn fmt(&self, f: &mut fmt::Formatter<'_>) -> fmt::Result {
-        write!(f, "refused {} ({self:?})", self.number())
+        write!(f, "refused {}: {}", self.number(), self.words())
     }
 }
 
+#[cfg(feature = "std")]
 impl std::error::Error for Refusal {}

@@ -94,9 +94,7 @@ impl Judge {
     /// Gives the order's number, by which the application answers.
     pub fn handed_up(&mut self, bytes: &[u8]) -> Result<usize, String> {
         self.tally.hand_ups += 1;
-        let Some(order) = self.orders.last_mut() else {
-            return Err("an order was handed up before any was submitted".to_string());
-        };
+        let order = self.orders.last_mut().ok_or("an order was handed up before any was submitted")?;
         order.hand_ups += 1;
         held(order.bytes == bytes, "orders are carried out in the order submitted, byte for byte")?;
         held(order.outcome != Outcome::NotSent, "an order reported not sent was never carried out")?;
@@ -132,9 +130,7 @@ impl Judge {
     }
 
     fn ends(&mut self, outcome: Outcome) -> Result<usize, String> {
-        let Some(number) = self.pending.take() else {
-            return Err("an outcome was reported with no order pending".to_string());
-        };
+        let number = self.pending.take().ok_or("an outcome was reported with no order pending")?;
         let order = self.order(number);
         let first = order.outcome == Outcome::Pending;
         order.outcome = outcome;

@@ -46,11 +46,11 @@ fn words() -> Option<Words> {
 }
 
 fn main() {
-    let Some(words) = words() else {
+    let words = words().unwrap_or_else(|| {
         eprintln!("use: soak [--seed N] [--seconds N] [--calls N] [--oracle PATH] [--plant FAULT]");
         eprintln!("FAULT is one of tries, reply, twice, late, order, notsent, early, mute, row, record, number");
         exit(2);
-    };
+    });
     println!("seed {}", words.seed);
     let start = Instant::now();
     let mut scene = Scene::new(words.seed, words.fault);

@@ -16,8 +16,8 @@ fn hex(bytes: &[u8]) -> String {
 /// What `koy_read` says, in the same words.
 fn ours(bytes: &[u8]) -> String {
     match read(bytes) {
-        Ok(Reading::Telegram(Telegram::Data { header: h, pdu }, total)) => {
-            format!("data {total} {} {} - - {} {}", h.da, h.sa, h.fc, hex(&bytes[pdu]))
+        Ok(Reading::Telegram { telegram: Telegram::Data { header: h, pdu }, bytes }) => {
+            format!("data {} {} {} - - {} {}", bytes.len(), h.da, h.sa, h.fc.to_byte(), hex(pdu))
         }
         other => format!("{other:?}"),
     }

@@ -3,8 +3,8 @@ use crate::judge::Judge;
 use crate::plant::Fault;
 use crate::random::Random;
 use koyandefa::{
-    GuardedInitiator, GuardedResponder, HandUp, Heard, InitiatorAnswer, NotTaken, Received, Refusal, LONGEST_ORDER,
-    ROOM,
+    Address, GuardedInitiator, GuardedResponder, HandUp, Heard, InitiatorAnswer, NotTaken, Received, Refusal,
+    LONGEST_ORDER, ROOM,
 };
 
 const KEPT_TELEGRAMS: usize = 100_000;
@@ -14,8 +14,8 @@ const OPENING: usize = 6;
 pub struct Scene {
     random: Random,
     fault: Fault,
-    own: u8,
-    peer: u8,
+    own: Address,
+    peer: Address,
     tries: u8,
     initiator: GuardedInitiator,
     responder: GuardedResponder,
@@ -64,8 +64,8 @@ const LYING: usize = 8;
 impl Scene {
     pub fn new(seed: u64, fault: Fault) -> Scene {
         let mut random = Random::new(seed);
-        let own = random.below(126) as u8;
-        let peer = (own + 1 + random.below(125) as u8) % 126;
+        let own = Address(random.below(126) as u8);
+        let peer = Address((own.0 + 1 + random.below(125) as u8) % 126);
         let tries = 1 + random.below(8) as u8;
         println!("own {own}, peer {peer}, tries {tries}");
         Scene {
@@ -167,9 +167,9 @@ impl Scene {
         let mut buf = self.room();
         let now = self.tick();
         match self.initiator.submit(now, order, &mut buf) {
-            Ok(InitiatorAnswer::Sent(len)) => {
-                self.wrote(&buf[..len], true);
-                self.clean |= len == OPENING;
+            Ok(InitiatorAnswer::Sent(telegram)) => {
+                self.wrote(telegram, true);
+                self.clean |= telegram.len() == OPENING;
                 self.judge.submitted(order)
             }
             Err(Refusal::OrderPending) if self.judge.is_pending() => Ok(()),
@@ -183,25 +183,25 @@ impl Scene {
         let mut buf = self.room();
         let now = self.tick();
         match self.initiator.silence(now, &mut buf) {
-            Ok(InitiatorAnswer::Sent(len)) => {
-                self.wrote(&buf[..len], true);
+            Ok(InitiatorAnswer::Sent(telegram)) => {
+                self.wrote(telegram, true);
                 self.judge.repeated();
                 Ok(())
             }
-            Ok(answer) => self.report(answer, &[]),
+            Ok(answer) => self.report(answer),
             Err(refusal) => Err(format!("silence with room was {refusal}")),
         }
     }
 
     /// An outcome goes to the judge.
-    fn report(&mut self, answer: InitiatorAnswer, heard: &[u8]) -> Verdict {
+    fn report(&mut self, answer: InitiatorAnswer) -> Verdict {
         let more = u8::from(self.fault == Fault::Tries);
         match answer {
             InitiatorAnswer::Confirmed { reply, tries } => {
                 if self.fault == Fault::Record && self.random.one_in(2) {
                     self.old_record = Some(second(&self.initiator));
                 }
-                let mut reply = heard[reply].to_vec();
+                let mut reply = reply.to_vec();
                 if self.fault == Fault::Reply {
                     reply.push(0);
                 }
@@ -217,7 +217,10 @@ impl Scene {
 
     /// What is on the line is heard, or lost.
     fn deliver(&mut self) -> Verdict {
-        let Some((telegram, by_initiator)) = self.line.take() else { return Ok(()) };
+        let (telegram, by_initiator) = match self.line.take() {
+            Some(written) => written,
+            None => return Ok(()),
+        };
         if self.fault == Fault::Late && by_initiator && self.random.one_in(4) {
             let old = std::mem::replace(&mut self.late, telegram);
             return if old.is_empty() { Ok(()) } else { self.responder_hears(&old) };
@@ -241,7 +244,7 @@ impl Scene {
         let opening = telegram.len() == OPENING;
         let now = self.tick();
         match self.responder.hear(Received { at: now, bytes: telegram }, now, &mut buf) {
-            Ok(Heard::Sent(len)) => {
+            Ok(Heard::Sent(written)) => {
                 if opening {
                     self.judge.dropped();
                 }
@@ -249,7 +252,7 @@ impl Scene {
                     self.old_row = Some(second(&self.responder));
                 }
                 if self.fault != Fault::Mute {
-                    self.wrote(&buf[..len], false);
+                    self.wrote(written, false);
                 }
                 Ok(())
             }
@@ -270,7 +273,7 @@ impl Scene {
         }
         let number = self.judge.handed_up(&order)?;
         if self.unanswered.len() == LYING {
-            self.unanswered.remove(0);
+            drop(self.unanswered.remove(0));
         }
         self.unanswered.push((hand_up, number));
         Ok(())
@@ -282,12 +285,12 @@ impl Scene {
         let mut buf = self.room();
         let now = self.tick();
         match self.initiator.hear(Received { at: now, bytes: telegram }, now, &mut buf) {
-            Ok(InitiatorAnswer::Sent(len)) => {
-                self.wrote(&buf[..len], true);
+            Ok(InitiatorAnswer::Sent(telegram)) => {
+                self.wrote(telegram, true);
                 self.judge.order_sent();
                 Ok(())
             }
-            Ok(answer) => self.report(answer, telegram),
+            Ok(answer) => self.report(answer),
             Err(refusal) => Err(format!("hearing with room was {refusal}")),
         }
     }
@@ -316,9 +319,9 @@ impl Scene {
             }
         }
         match self.responder.answer(hand_up, now, reply, &mut buf) {
-            Ok(len) => {
+            Ok(telegram) => {
                 self.lose();
-                self.wrote(&buf[..len], false);
+                self.wrote(telegram, false);
                 self.judge.answered(number, reply)
             }
             Err(NotTaken::NoReplyOwed) => self.judge.answer_refused(number),
@@ -335,7 +338,10 @@ impl Scene {
 
     /// A telegram comes out of a queue after its hearer's own next telegram: nothing is to happen.
     fn stale(&mut self) -> Verdict {
-        let Some((telegram, by_initiator, at)) = self.queued.take() else { return Ok(()) };
+        let (telegram, by_initiator, at) = match self.queued.take() {
+            Some(queued) => queued,
+            None => return Ok(()),
+        };
         if self.written[usize::from(by_initiator)] < at {
             return Ok(());
         }
@@ -366,7 +372,7 @@ impl Scene {
         let in_flight = matches!(self.line, Some((_, true))) && !self.judge.is_carried_out();
         match answer {
             InitiatorAnswer::Unknown { tries } if self.fault == Fault::Early && in_flight => self.judge.not_sent(tries),
-            answer => self.report(answer, &[]),
+            answer => self.report(answer),
         }
     }
 
@@ -440,7 +446,10 @@ impl Scene {
 
     /// An answer without room is refused, and the order comes back if it is still waited for.
     fn answers_short(&mut self, now: usize, short: &mut [u8]) -> bool {
-        let Some((hand_up, number)) = self.unanswered.pop() else { return true };
+        let (hand_up, number) = match self.unanswered.pop() {
+            Some(lying) => lying,
+            None => return true,
+        };
         match self.responder.answer(hand_up, now, &[1], short) {
             Err(NotTaken::Again(Refusal::NoRoom, hand_up)) => {
                 self.unanswered.push((hand_up, number));
@@ -482,6 +491,11 @@ impl Scene {
         }
     }
 
+    /// What is on the line, if this end wrote it.
+    fn taken(&mut self, by_initiator: bool) -> Option<Vec<u8>> {
+        self.line.take().filter(|&(_, by)| by == by_initiator).map(|(telegram, _)| telegram)
+    }
+
     /// The last sentence of demand 3: neither end has restarted since the opening began, the application answers at once and
     /// one permitted try of each phase passes both ways, so the order is confirmed.
     fn fair_order(&mut self) -> Verdict {
@@ -495,20 +509,15 @@ impl Scene {
             for _ in 0..self.random.below(u64::from(self.tries)) {
                 self.silence()?;
             }
-            let Some((telegram, true)) = self.line.take() else {
-                return Err("the initiator did not write a permitted try".to_string());
-            };
+            let telegram = self.taken(true).ok_or("the initiator did not write a permitted try")?;
             self.responder_hears(&telegram)?;
             if self.line.is_none() {
-                let Some((hand_up, number)) = self.unanswered.pop() else {
-                    return Err("a try that was heard neither wrote nor handed up".to_string());
-                };
+                let lying = self.unanswered.pop();
+                let (hand_up, number) = lying.ok_or("a try that was heard neither wrote nor handed up")?;
                 let reply = self.random.bytes(3);
                 self.answer_this(hand_up, number, &reply)?;
             }
-            let Some((telegram, false)) = self.line.take() else {
-                return Err("the responder did not answer a try that it heard".to_string());
-            };
+            let telegram = self.taken(false).ok_or("the responder did not answer a try that it heard")?;
             self.initiator_hears(&telegram)?;
             if self.judge.is_pending() && self.line.is_none() {
                 return Err("a fair reply was not taken".to_string());

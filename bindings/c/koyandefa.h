@@ -47,9 +47,9 @@
 
 /* the version of this header and of the archives that it goes with */
 #define KOY_VERSION_MAJOR 0
-#define KOY_VERSION_MINOR 1
+#define KOY_VERSION_MINOR 2
 #define KOY_VERSION_PATCH 0
-#define KOY_VERSION "0.1.0"
+#define KOY_VERSION "0.2.0"
 
 #ifdef __cplusplus
 extern "C" {

@@ -5,7 +5,8 @@
 -- they are, `λ κs e. e`; then, where a call takes a record by value, the record that comes back and the one that came in. Restarting an
 -- initiator never refuses, though its answer could say so; its fields are here for that.
 --
--- Calls that cannot refuse. Each public call is in the record or in this list, and none whose answer could be a refusal is in the list: docs/check-calls.
+-- Calls that cannot refuse. Each public call is in the record or in this list, and none is in the list whose result could hold a refusal;
+-- docs/check-calls sees to both.
 -- They ask what a value or bytes are: `Part::show`, `Refusal::number`, `Answer::number`, `checksum`, `FrameCountBit::fcb`,
 -- `FrameCountBit::fcv`, `FunctionCode::to_byte`, `RequestType::number`, `RequestType::expects_reply`, `ResponseState::number`,
 -- `ResponseStatus::number`, `Frame::is_sealed`, `DataTelegram::pdu`, `DataTelegram::is_response`, `Telegram::source_address`,

@@ -24,8 +24,8 @@ module _ (call : Ended) where
   abbrev pub Shows : Type 1
   Shows = (κs : Lives call) → Result call κs → Type 0
 
-  -- The parameters at exit, as those at entry are written. What was lent comes back, so the two are of one type: of every call this is
-  -- `λ κs e. e`.
+  -- The parameters at exit, to be held against those at entry. What was lent comes back at the end, so that the two are of one type: of
+  -- every call this is `λ κs e. e`.
   abbrev pub Back : Type 0
   Back = (κs : Lives call) → AtExit call κs → Given call κs
 
@@ -33,7 +33,8 @@ module _ (call : Ended) where
   abbrev pub sized : ((κs : Lives call) → Given call κs → Type 0) → Promise call → Promise call
   sized sizes promise κs a x e = sizes κs a × promise κs a x e
 
--- A refused call leaves its parameters like this, what lies behind each `&mut` among it, and gives back this record.
+-- A refused call leaves its parameters like this (`left`), what lies behind each `&mut` among it, and the record in its result
+-- (`returned`) is this one (`due`).
 pub record RefusedLeaves
     {R : Type 0} (call : Ended) (promise : Promise call) (refuses : Shows call)
     (back : Back call) (left : (κs : Lives call) → Given call κs → Given call κs)

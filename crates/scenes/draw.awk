@@ -34,7 +34,7 @@ function side(end, words, mark,    n, word, i, line) {
 # A long text is cut.
 function shown(text) {
     if (text == "-") return "(empty)"
-    return length(text) < SIDE ? text : substr(text, 1, 6) ".. (" length(text) " bytes)"
+    return length(text) < SIDE ? text : length(text) " bytes " substr(text, 1, 6) ".."
 }
 function tries(n) { return n == 1 ? "1 try" : n " tries" }
 # An order bears its frame count bit, by which the cabinet knows a new one.

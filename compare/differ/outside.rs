@@ -113,10 +113,15 @@ fn no_station(case: &Case) -> Option<String> {
     as_wanted.then(|| case.twin.replace("panic ", "refused-11 "))
 }
 
+/// A cursor at or past the end stays.
 fn empty_store(case: &Case) -> Option<String> {
-    let empty = matches!(case.words[..], ["diag", "-"] | ["step", "-", ..] | ["store", "0", ..]);
+    let cursor = match case.words[..] {
+        ["diag", "-"] | ["store", "0", ..] => 0,
+        ["step", "-", _, cursor] => number(cursor),
+        _ => return None,
+    };
     let before = case.rust.strip_suffix("panic")?;
-    empty.then(|| format!("{before}end"))
+    Some(format!("{before}end @{cursor}"))
 }
 
 fn long_walk(case: &Case) -> Option<String> {
@@ -125,13 +130,15 @@ fn long_walk(case: &Case) -> Option<String> {
     (panics && number(length) > byte_count(store)).then(|| case.twin.to_string())
 }
 
-/// The walk panics at a header whose low six bits are zero and whose top bit is clear.
+/// The walk panics at a header whose low six bits are zero and whose top bit is clear. The refusal moves the cursor to the
+/// end of what is walked.
 fn zero_length(case: &Case) -> Option<String> {
     let parts: Vec<&str> = case.rust.split(" | ").collect();
     let (last, before) = parts.split_last()?;
-    let store = match case.words[..] {
-        ["diag", store] | ["step", store, ..] => store,
-        ["store", ..] => before.iter().rev().find(|part| part.starts_with("true "))?.rsplit(' ').next()?,
+    let (store, end) = match case.words[..] {
+        ["diag", store] => (store, byte_count(store)),
+        ["step", store, length, _] => (store, number(length).min(byte_count(store))),
+        ["store", ..] => filled(before)?,
         _ => return None,
     };
     let cursor = match case.words[..] {
@@ -139,7 +146,14 @@ fn zero_length(case: &Case) -> Option<String> {
         _ => before.last().and_then(|block| block.rsplit_once(" @")).map_or(0, |(_, cursor)| number(cursor)),
     };
     let header = u8::from_str_radix(store.get(2 * cursor..2 * cursor + 2)?, 16).ok()?;
-    (*last == "panic" && header & 0xBF == 0).then(|| [before, &["refused-14"]].concat().join(" | "))
+    let refused = format!("refused-14 @{end}");
+    (*last == "panic" && header & 0xBF == 0).then(|| [before, &[&refused]].concat().join(" | "))
+}
+
+/// The store that the last filling left, and how much of it is walked: `true LEN STORE`.
+fn filled<'a>(parts: &[&'a str]) -> Option<(&'a str, usize)> {
+    let (length, store) = parts.iter().rev().find_map(|part| part.strip_prefix("true "))?.split_once(' ')?;
+    Some((store, number(length)))
 }
 
 fn inactive(case: &Case) -> Option<String> {

@@ -18,6 +18,7 @@ fn answers(input: &[u8]) -> String {
     }
     let mut answers = String::new();
     for line in input.split(|&byte| byte == b'\n') {
+        let line = line.strip_suffix(b"\r").unwrap_or(line);
         if line.is_empty() || line[0] == b'#' {
             continue;
         }

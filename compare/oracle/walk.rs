@@ -63,14 +63,14 @@ fn walked(diagnostics: &ExtendedDiagnostics) -> Vec<String> {
     }
 }
 
-/// One step: a block and the cursor after it, or what stands last.
+/// One step: a block, or what stands last, and the cursor after it.
 fn one(walk: &mut ExtDiagBlockIter) -> Result<String, String> {
     match original(|| walk.next()) {
         Err(Panicked) => Err("panic".to_string()),
         Ok(Some(block)) => Ok(format!("{} @{}", shown(&block), walk.cursor())),
         Ok(None) => Err(match refusals::logged() {
-            Some(number) => format!("refused-{number}"),
-            None => "end".to_string(),
+            Some(number) => format!("refused-{number} @{}", walk.cursor()),
+            None => format!("end @{}", walk.cursor()),
         }),
     }
 }

@@ -1,4 +1,4 @@
--- Read `NoSecondOutcome`, `RefusedStays`, `OurDemand2` and `Samples`; then what is refuted, `WrongRefusals` and `WrongSystems`.
+-- Read `NoSecondOutcome`, `RefusedStays` and `Samples`; then what is refuted, `WrongRefusals` and `WrongLister`.
 -- demand 1: no second outcome fits the promise of any public call
 pub mod NoSecondOutcome
 -- demand 1: a refused call leaves its records and what it was lent; the walk moves to its end

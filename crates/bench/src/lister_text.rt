@@ -33,7 +33,7 @@ pub(crate) fn lister(input: &Input, at: usize, out: &mut Out, to: usize) -> usiz
     let mut bytes = [0u8; 4200];
     let word = get_hex(input, at, &mut bytes);
     if !is_end(input, word.next) {
-        return put_error(out, to);
+        return put_error(out, to, word.next);
     }
     put_listing(out, to, shown(&bytes, word.value))
 }

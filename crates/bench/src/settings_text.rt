@@ -16,7 +16,7 @@ pub(crate) fn settings(input: &Input, at: usize, out: &mut Out, to: usize) -> us
     let mut bytes = [0u8; 4200];
     let text = get_hex(input, at, &mut bytes);
     if !is_end(input, text.next) {
-        return put_error(out, to);
+        return put_error(out, to, text.next);
     }
     put_settings_read(out, to, shown(&bytes, text.value))
 }

@@ -26,7 +26,7 @@ pub(crate) fn raw(input: &Input, at: usize, out: &mut Out, to: usize) -> usize {
     let store = get_hex(input, at, &mut bytes);
     let length = get_number(input, store.next);
     if !is_end(input, length.next) {
-        return put_error(out, to);
+        return put_error(out, to, length.next);
     }
     put_raw(out, to, shown(&bytes, store.value), length.value)
 }
@@ -42,18 +42,19 @@ fn put_raw(out: &mut Out, to: usize, store: &[u8], length: usize) -> usize {
     put_next_hex(out, store_at, store)
 }
 
-// Whether all that is left of the line is byte strings. It is asked first, so that a bad line is answered by `error` alone. A word always ends
-// behind its start, and none at `NOWHERE`; the test of it, here and in `put_fillings`, is what shows that the loop ends.
-fn are_byte_strings(input: &Input, from: usize, bytes: &mut Bytes) -> bool {
+// Where the byte strings end that are left of the line: at its end, or where a word is none and says why. It is asked first, so that a bad
+// line is answered by `error` alone. A word always ends behind its start, and none at `NOWHERE`; the test of it, here and in
+// `put_fillings`, is what shows that the loop ends.
+fn byte_strings_end(input: &Input, from: usize, bytes: &mut Bytes) -> usize {
     let mut at = from;
     while !is_end(input, at) {
         let word = get_hex(input, at, bytes);
         if word.next <= at {
-            return false;
+            return at;
         }
         at = word.next;
     }
-    true
+    at
 }
 
 fn put_filled(out: &mut Out, to: usize, filled: Filled, store: &[u8]) -> usize {
@@ -93,8 +94,9 @@ fn put_fillings(
 pub(crate) fn store(input: &Input, at: usize, out: &mut Out, to: usize) -> usize {
     let room = get_room(input, at);
     let mut bytes = [0u8; 4200];
-    if !are_byte_strings(input, room.next, &mut bytes) {
-        return put_error(out, to);
+    let end = byte_strings_end(input, room.next, &mut bytes);
+    if !is_end(input, end) {
+        return put_error(out, to, end);
     }
     put_store(input, room.next, &mut bytes, room.value, out, to)
 }

@@ -1,6 +1,5 @@
 // `diag HEX`, `step STORE LEN CURSOR`
 use crate::blocks::put_block;
-use diagnostics::ExtDiagBlock;
 use diagnostics::ExtDiagBlockIter;
 use diagnostics::ExtendedDiagnostics;
 use diagnostics::Found;
@@ -27,21 +26,21 @@ fn is_block(found: Found) -> bool {
     }
 }
 
-// A block with the cursor after it.
-fn put_block_at(
+fn put_found(
     out: &mut Out,
     to: usize,
-    block: ExtDiagBlock,
-    cursor: usize,
+    found: Found,
     diag: ExtendedDiagnostics,
     store: &[u8],
 ) -> usize {
-    let at = put_block(out, to, block, diag, store);
-    let cursor_at = put_text(out, at, b" @");
-    put_number(out, cursor_at, cursor)
+    match found {
+        Found::Block(block) => put_block(out, to, block, diag, store),
+        Found::End => put_text(out, to, b"end"),
+        Found::Refused(refusal) => put_refusal(out, to, refusal.number()),
+    }
 }
 
-// What a step found.
+// What a step found, with the cursor after it: a refusal moves it to the end of what is walked.
 fn put_step(
     out: &mut Out,
     to: usize,
@@ -50,12 +49,9 @@ fn put_step(
     store: &[u8],
 ) -> usize {
     let found = step.found;
-    let cursor = step.iter.cursor;
-    match found {
-        Found::Block(block) => put_block_at(out, to, block, cursor, diag, store),
-        Found::End => put_text(out, to, b"end"),
-        Found::Refused(refusal) => put_refusal(out, to, refusal.number()),
-    }
+    let at = put_found(out, to, found, diag, store);
+    let cursor_at = put_text(out, at, b" @");
+    put_number(out, cursor_at, step.iter.cursor)
 }
 
 // Where a walk goes on behind a step, with the place behind its answer; a cursor that does not move where it ends.
@@ -104,7 +100,7 @@ pub(crate) fn diag(input: &Input, at: usize, out: &mut Out, to: usize) -> usize 
     let mut bytes = [0u8; 4200];
     let store = get_hex(input, at, &mut bytes);
     if !is_end(input, store.next) {
-        return put_error(out, to);
+        return put_error(out, to, store.next);
     }
     put_diag(out, to, shown(&bytes, store.value))
 }
@@ -123,7 +119,7 @@ pub(crate) fn step(input: &Input, at: usize, out: &mut Out, to: usize) -> usize 
     let length = get_number(input, store.next);
     let cursor = get_number(input, length.next);
     if !is_end(input, cursor.next) {
-        return put_error(out, to);
+        return put_error(out, to, cursor.next);
     }
     put_one(
         out,

@@ -3,7 +3,6 @@ use crate::parts::get_addresses;
 use crate::parts::get_given;
 use crate::parts::put_part;
 use crate::parts::put_sent;
-use crate::parts::put_touched;
 use codes::FrameCountBit;
 use ground::Address;
 use ground::Answer;
@@ -23,10 +22,13 @@ use line_text::answers::put_number;
 use line_text::answers::put_ok_or_refused;
 use line_text::answers::put_refused;
 use line_text::answers::put_text;
+use line_text::answers::put_touched;
 use line_text::strings::lent;
 use line_text::strings::shown;
 use line_text::strings::shown_room;
 use line_text::words::Input;
+use line_text::words::NOT_MADE;
+use line_text::words::UNKNOWN_COMMAND;
 use line_text::words::get_byte;
 use line_text::words::is_end;
 use line_text::words::number_of;
@@ -56,11 +58,11 @@ pub(crate) fn none() -> InitiatorEnd {
     }
 }
 
-// The line is no command, and the end stays as it was.
-fn no_command(end: InitiatorEnd, out: &mut Out, to: usize) -> InitiatorPlayed {
+// The line is no command, by the place at which its reading ended, and the end stays as it was.
+fn no_command(end: InitiatorEnd, place: usize, out: &mut Out, to: usize) -> InitiatorPlayed {
     InitiatorPlayed {
         end,
-        to: put_error(out, to),
+        to: put_error(out, to, place),
     }
 }
 
@@ -227,7 +229,7 @@ fn made_as(asked: Asked) -> InitiatorMade {
 fn new(input: &Input, at: usize, old: InitiatorEnd, out: &mut Out, to: usize) -> InitiatorPlayed {
     let asked = get_asked(input, at);
     if !is_end(input, asked.next) {
-        return no_command(old, out, to);
+        return no_command(old, asked.next, out, to);
     }
     make(made_as(asked), old, out, to)
 }
@@ -267,7 +269,7 @@ fn play_given(
     let mut bytes = [0u8; 4200];
     let given = get_given(input, at, number < 3, &mut bytes);
     if !is_end(input, given.next) {
-        return no_command(end, out, to);
+        return no_command(end, given.next, out, to);
     }
     let initiator = end.initiator;
     play_call(
@@ -288,7 +290,7 @@ fn restart(
     to: usize,
 ) -> InitiatorPlayed {
     if !is_end(input, at) {
-        return no_command(end, out, to);
+        return no_command(end, at, out, to);
     }
     let initiator = end.initiator;
     played(initiator.restart(), b"", out, to)
@@ -305,10 +307,7 @@ fn play_made(
     if number < 4 {
         return play_given(input, at, number, end, out, to);
     }
-    if number == 4 {
-        return restart(input, at, end, out, to);
-    }
-    no_command(end, out, to)
+    restart(input, at, end, out, to)
 }
 
 pub(crate) fn play(
@@ -322,8 +321,11 @@ pub(crate) fn play(
     if name.number == 0 {
         return new(input, name.next, end, out, to);
     }
+    if 4 < name.number {
+        return no_command(end, UNKNOWN_COMMAND, out, to);
+    }
     if !end.is_made {
-        return no_command(end, out, to);
+        return no_command(end, NOT_MADE, out, to);
     }
     play_made(input, name.next, name.number, end, out, to)
 }

@@ -66,24 +66,3 @@ pub(crate) fn put_part(out: &mut Out, to: usize, word: &[u8], part: Part) -> usi
     let len_at = put_next_number(out, start_at, part.start);
     put_next_number(out, len_at, part.len)
 }
-
-// Whether the buffer holds AA from a place on, as it was lent.
-fn is_untouched(buffer: &[u8], from: usize) -> bool {
-    let mut at = from;
-    while at < buffer.len() {
-        if buffer[at] != 0xAA {
-            return false;
-        }
-        at += 1;
-    }
-    true
-}
-
-// A call writes its telegram and nothing else.
-pub(crate) fn put_touched(out: &mut Out, to: usize, buffer: &[u8], len: usize) -> usize {
-    if is_untouched(buffer, len) {
-        return to;
-    }
-    let at = put_text(out, to, b" !");
-    put_hex(out, at, buffer)
-}

@@ -3,7 +3,6 @@ use crate::parts::get_addresses;
 use crate::parts::get_given;
 use crate::parts::put_part;
 use crate::parts::put_sent;
-use crate::parts::put_touched;
 use ground::Address;
 use ground::Answer;
 use line_text::answers::Out;
@@ -15,11 +14,14 @@ use line_text::answers::put_hex;
 use line_text::answers::put_ok_or_refused;
 use line_text::answers::put_refused;
 use line_text::answers::put_text;
+use line_text::answers::put_touched;
 use line_text::bytes::front;
 use line_text::strings::lent;
 use line_text::strings::shown;
 use line_text::strings::shown_room;
 use line_text::words::Input;
+use line_text::words::NOT_MADE;
+use line_text::words::UNKNOWN_COMMAND;
 use line_text::words::is_end;
 use line_text::words::number_of;
 use link_rules::Link;
@@ -56,11 +58,11 @@ pub(crate) fn none() -> ResponderEnd {
     }
 }
 
-// The line is no command, and the end stays as it was.
-fn no_command(end: ResponderEnd, out: &mut Out, to: usize) -> ResponderPlayed {
+// The line is no command, by the place at which its reading ended, and the end stays as it was.
+fn no_command(end: ResponderEnd, place: usize, out: &mut Out, to: usize) -> ResponderPlayed {
     ResponderPlayed {
         end,
-        to: put_error(out, to),
+        to: put_error(out, to, place),
     }
 }
 
@@ -163,7 +165,7 @@ fn make(made: ResponderMade, old: ResponderEnd, out: &mut Out, to: usize) -> Res
 fn new(input: &Input, at: usize, old: ResponderEnd, out: &mut Out, to: usize) -> ResponderPlayed {
     let addresses = get_addresses(input, at);
     if !is_end(input, addresses.next) {
-        return no_command(old, out, to);
+        return no_command(old, addresses.next, out, to);
     }
     let made = Responder::new(Link {
         own: Address(addresses.own),
@@ -206,7 +208,7 @@ fn play_given(
     let mut bytes = [0u8; 4200];
     let given = get_given(input, at, true, &mut bytes);
     if !is_end(input, given.next) {
-        return no_command(end, out, to);
+        return no_command(end, given.next, out, to);
     }
     let responder = end.responder;
     play_call(
@@ -227,7 +229,7 @@ fn restart(
     to: usize,
 ) -> ResponderPlayed {
     if !is_end(input, at) {
-        return no_command(end, out, to);
+        return no_command(end, at, out, to);
     }
     let before = end.responder;
     let responder = before.restart();
@@ -249,10 +251,7 @@ fn play_made(
     if number < 3 {
         return play_given(input, at, number, end, out, to);
     }
-    if number == 3 {
-        return restart(input, at, end, out, to);
-    }
-    no_command(end, out, to)
+    restart(input, at, end, out, to)
 }
 
 pub(crate) fn play(
@@ -266,8 +265,11 @@ pub(crate) fn play(
     if name.number == 0 {
         return new(input, name.next, end, out, to);
     }
+    if 3 < name.number {
+        return no_command(end, UNKNOWN_COMMAND, out, to);
+    }
     if !end.is_made {
-        return no_command(end, out, to);
+        return no_command(end, NOT_MADE, out, to);
     }
     play_made(input, name.next, name.number, end, out, to)
 }

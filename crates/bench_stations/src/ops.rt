@@ -1,5 +1,8 @@
 // The words behind OWN: ops, each of which is one call of a station list.
+use line_text::words::BAD_OP;
+use line_text::words::INPUT;
 use line_text::words::Input;
+use line_text::words::NO_WORD;
 use line_text::words::NOWHERE;
 use line_text::words::behind;
 use line_text::words::byte_behind;
@@ -20,13 +23,18 @@ pub(crate) struct OpWord {
     pub(crate) next: usize,
 }
 
+// Where an op ends; what is missing within it is no word of its own.
+fn op_end(next: usize) -> usize {
+    if next == NO_WORD { BAD_OP } else { next }
+}
+
 // SA and DA, each behind a colon.
 fn get_witness(input: &Input, at: usize) -> OpWord {
     let sa = byte_behind(input, at, b':');
     let da = byte_word(input, sa.next, b':');
     OpWord {
         op: Op::Witness(sa.value, da.value),
-        next: da.next,
+        next: op_end(da.next),
     }
 }
 
@@ -34,7 +42,7 @@ fn get_set_next(input: &Input, at: usize) -> OpWord {
     let address = byte_word(input, at, b':');
     OpWord {
         op: Op::SetNext(address.value),
-        next: address.next,
+        next: op_end(address.next),
     }
 }
 
@@ -42,7 +50,7 @@ fn get_remove(input: &Input, at: usize) -> OpWord {
     let address = byte_word(input, at, b':');
     OpWord {
         op: Op::Remove(address.value),
-        next: address.next,
+        next: op_end(address.next),
     }
 }
 
@@ -50,12 +58,18 @@ fn get_claim(input: &Input, at: usize) -> OpWord {
     let end = behind(input, at, b'c');
     OpWord {
         op: Op::Claim,
-        next: ended(input, end),
+        next: op_end(ended(input, end, BAD_OP)),
     }
 }
 
 pub(crate) fn get_op(input: &Input, at: usize) -> OpWord {
     let letter = behind(input, at, b' ');
+    if INPUT < letter {
+        return OpWord {
+            op: Op::Claim,
+            next: letter,
+        };
+    }
     let witness = behind(input, letter, b'w');
     if witness < NOWHERE {
         return get_witness(input, witness);
@@ -71,16 +85,17 @@ pub(crate) fn get_op(input: &Input, at: usize) -> OpWord {
     get_claim(input, letter)
 }
 
-// Whether all that is left of the line is ops. It is asked first, so that a bad line is answered by `error` alone. An op always ends behind
-// its start, and none at `NOWHERE`; the test of it, here and in `put_ops`, is what shows that the loop ends.
-pub(crate) fn are_ops(input: &Input, from: usize) -> bool {
+// Where the ops end that are left of the line: at its end, or where a word is none and says why. It is asked first, so that a bad line is
+// answered by `error` alone. An op always ends behind its start, and none at `NOWHERE`; the test of it, here and in `put_ops`, is what
+// shows that the loop ends.
+pub(crate) fn ops_end(input: &Input, from: usize) -> usize {
     let mut at = from;
     while !is_end(input, at) {
         let word = get_op(input, at);
         if word.next <= at {
-            return false;
+            return at;
         }
         at = word.next;
     }
-    true
+    at
 }

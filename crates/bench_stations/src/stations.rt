@@ -1,7 +1,7 @@
 // `ring OWN OP…`, `ready OWN OP…`
 use crate::ops::Op;
-use crate::ops::are_ops;
 use crate::ops::get_op;
+use crate::ops::ops_end;
 use ground::Address;
 use ground::Answer;
 use line_text::answers::Out;
@@ -150,8 +150,9 @@ fn put_made(
 
 pub(crate) fn ring(input: &Input, at: usize, is_whole: bool, out: &mut Out, to: usize) -> usize {
     let own = get_byte(input, at);
-    if !are_ops(input, own.next) {
-        return put_error(out, to);
+    let end = ops_end(input, own.next);
+    if !is_end(input, end) {
+        return put_error(out, to, end);
     }
     put_made(
         input,

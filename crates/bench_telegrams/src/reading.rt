@@ -21,8 +21,10 @@ use line_text::answers::put_refused;
 use line_text::answers::put_text;
 use line_text::strings::get_hex;
 use line_text::strings::shown;
+use line_text::words::BAD_FRAME_COUNT_BIT;
 use line_text::words::Input;
 use line_text::words::behind;
+use line_text::words::ended;
 use line_text::words::get_byte;
 use line_text::words::is_end;
 use line_text::words::number_of;
@@ -39,7 +41,7 @@ pub(crate) fn read(input: &Input, at: usize, out: &mut Out, to: usize) -> usize 
     let mut bytes = [0u8; 4200];
     let word = get_hex(input, at, &mut bytes);
     if !is_end(input, word.next) {
-        return put_error(out, to);
+        return put_error(out, to, word.next);
     }
     put_read(out, to, shown(&bytes, word.value))
 }
@@ -101,7 +103,7 @@ pub(crate) fn about(input: &Input, at: usize, out: &mut Out, to: usize) -> usize
     let mut bytes = [0u8; 4200];
     let word = get_hex(input, at, &mut bytes);
     if !is_end(input, word.next) {
-        return put_error(out, to);
+        return put_error(out, to, word.next);
     }
     put_about(out, to, shown(&bytes, word.value))
 }
@@ -151,7 +153,7 @@ fn put_status(out: &mut Out, to: usize, found: ResponseStatusFound) -> usize {
 pub(crate) fn fc(input: &Input, at: usize, out: &mut Out, to: usize) -> usize {
     let byte = get_byte(input, at);
     if !is_end(input, byte.next) {
-        return put_error(out, to);
+        return put_error(out, to, byte.next);
     }
     put_found(out, to, FunctionCode::from_byte(byte.value))
 }
@@ -209,10 +211,10 @@ fn put_fcb(out: &mut Out, to: usize, fcb: FrameCountBit) -> usize {
     put_name(out, to, b"First High Low Inactive ", fcb_number(fcb))
 }
 
-// The frame count bit that a line's last word names.
+// The frame count bit that a line's last word names, or the place that says why it names none.
 enum FcbRead {
     Is(FrameCountBit),
-    Nothing,
+    Nothing(usize),
 }
 
 fn fcb_of(number: usize) -> FcbRead {
@@ -221,7 +223,7 @@ fn fcb_of(number: usize) -> FcbRead {
         1 => FcbRead::Is(FrameCountBit::High),
         2 => FcbRead::Is(FrameCountBit::Low),
         3 => FcbRead::Is(FrameCountBit::Inactive),
-        _ => FcbRead::Nothing,
+        _ => FcbRead::Nothing(BAD_FRAME_COUNT_BIT),
     }
 }
 
@@ -229,18 +231,24 @@ fn get_fcb(input: &Input, at: usize) -> FcbRead {
     let word = behind(input, at, b' ');
     let named = number_of(input, word, b"First High Low Inactive ");
     if is_end(input, named.next) {
-        fcb_of(named.number)
-    } else {
-        FcbRead::Nothing
+        return fcb_of(named.number);
     }
+    if named.next == word {
+        return FcbRead::Nothing(ended(input, word, BAD_FRAME_COUNT_BIT));
+    }
+    FcbRead::Nothing(named.next)
 }
 
 // `cycle FCB`
 pub(crate) fn cycle(input: &Input, at: usize, out: &mut Out, to: usize) -> usize {
-    let FcbRead::Is(fcb) = get_fcb(input, at) else {
-        return put_error(out, to);
-    };
-    match fcb.cycle() {
+    match get_fcb(input, at) {
+        FcbRead::Is(fcb) => put_cycled(out, to, fcb.cycle()),
+        FcbRead::Nothing(place) => put_error(out, to, place),
+    }
+}
+
+fn put_cycled(out: &mut Out, to: usize, cycled: Cycled) -> usize {
+    match cycled {
         Cycled::Next(next) => put_fcb(out, to, next),
         Cycled::Refused(refusal) => put_refused(out, to, refusal.number()),
     }

@@ -15,6 +15,7 @@ use line_text::answers::put_next_hex;
 use line_text::answers::put_next_number;
 use line_text::answers::put_refused;
 use line_text::answers::put_text;
+use line_text::answers::put_touched;
 use line_text::strings::get_hex;
 use line_text::strings::get_room;
 use line_text::strings::lent;
@@ -121,7 +122,7 @@ pub(crate) fn write(input: &Input, at: usize, out: &mut Out, to: usize) -> usize
     let word = get_hex(input, fields.next, &mut pdu);
     let room = get_room(input, word.next);
     if !is_end(input, room.next) {
-        return put_error(out, to);
+        return put_error(out, to, room.next);
     }
     put_data(out, to, fields, shown(&pdu, word.value), room.value)
 }
@@ -156,7 +157,7 @@ fn put_short(
     to: usize,
 ) -> usize {
     if !is_end(input, next) {
-        return put_error(out, to);
+        return put_error(out, to, next);
     }
     put_sending(out, to, sending, b"", room)
 }
@@ -194,7 +195,7 @@ pub(crate) fn wstate(input: &Input, at: usize, out: &mut Out, to: usize) -> usiz
     let sa = get_byte(input, da.next);
     let pair = get_pair(input, sa.next);
     if !is_end(input, pair.next) {
-        return put_error(out, to);
+        return put_error(out, to, pair.next);
     }
     let state = ResponseState::from_u8(pair.first);
     let status = ResponseStatus::from_u8(pair.second);
@@ -248,7 +249,10 @@ fn put_sending(out: &mut Out, to: usize, sending: Sending, pdu: &[u8], room: usi
 fn put_result(out: &mut Out, to: usize, result: TelegramTxResult, buffer: &[u8]) -> usize {
     match result {
         TelegramTxResult::Sent(response) => put_written(out, to, response, buffer),
-        TelegramTxResult::Refused(refusal) => put_refused(out, to, refusal.number()),
+        TelegramTxResult::Refused(refusal) => {
+            let at = put_refused(out, to, refusal.number());
+            put_touched(out, at, buffer, 0)
+        }
     }
 }
 

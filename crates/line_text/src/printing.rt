@@ -1,4 +1,5 @@
-// Standard input and output without a buffer.
+// Standard input, output and error without a buffer.
+use libc::STDERR_FILENO;
 use libc::STDIN_FILENO;
 use libc::STDOUT_FILENO;
 
@@ -16,4 +17,8 @@ pub fn print_number(key: &[u8], n: u8) {
 pub fn is_readable() -> bool {
     let mut more = [0u8; 1];
     libc::read(STDIN_FILENO, &mut more) >= 0
+}
+
+pub fn print_error(text: &[u8]) {
+    io::write_all(STDERR_FILENO, text);
 }

@@ -2,9 +2,12 @@
 use crate::bytes::Pair;
 use crate::bytes::front;
 use crate::bytes::pair_of;
+use crate::words::BAD_BYTES;
+use crate::words::BYTES_TOO_LONG;
 use crate::words::INPUT;
 use crate::words::Input;
 use crate::words::NOWHERE;
+use crate::words::ROOM_TOO_LARGE;
 use crate::words::Word;
 use crate::words::behind;
 use crate::words::behind_dash;
@@ -42,7 +45,7 @@ pub fn lent(room: usize) -> usize
 pub fn get_room(input: &Input, at: usize) -> Word {
     let word = get_number(input, at);
     if ROOM < word.value {
-        return no_word();
+        return no_word(ROOM_TOO_LARGE);
     }
     word
 }
@@ -53,10 +56,10 @@ fn decode(input: &Input, from: usize, bytes: &mut Bytes) -> Word {
     let mut len = 0;
     while len < BYTES {
         if INPUT <= at {
-            return no_word();
+            return no_word(BAD_BYTES);
         }
         let Pair::Is(b) = pair_of(input[at], input[at + 1]) else {
-            return no_word();
+            return no_word(BAD_BYTES);
         };
         bytes[len] = b;
         len += 1;
@@ -68,7 +71,7 @@ fn decode(input: &Input, from: usize, bytes: &mut Bytes) -> Word {
             };
         }
     }
-    no_word()
+    no_word(BYTES_TOO_LONG)
 }
 
 // A byte string goes to the front of the buffer. One that does not fit it cannot be read.
@@ -81,5 +84,8 @@ pub fn get_hex(input: &Input, at: usize, bytes: &mut Bytes) -> Word {
         };
     }
     let digits = behind(input, at, b' ');
+    if INPUT < digits {
+        return no_word(digits);
+    }
     decode(input, digits, bytes)
 }

@@ -1,6 +1,7 @@
-// The words of a line. A place is where a word ended: at the space before the next one, or at the line feed. A word that cannot be read
-// ends at `NOWHERE`, and so does each word behind it: a command reads all its words and asks once, at the last one, whether the line ends
-// there. The input is lent as a whole array and not as a slice, since a lent array asks no proof of its length.
+// The words of a line. A place is where a word ended: at the space before the next one, or at the line's end, a line feed or a carriage
+// return before it. A word that cannot be read ends at one of the places beyond the input, which says why, and so does each word behind it:
+// a command reads all its words and asks once, at the last one, whether the line ends there. The input is lent as a whole array and not as
+// a slice, since a lent array asks no proof of its length.
 use crate::bytes::find;
 use text::Number;
 
@@ -9,8 +10,31 @@ pub type Input = [u8; 1048577];
 
 pub const INPUT: usize = 1048576;
 
-// Beyond the input's end, where nothing can be read.
+// From here on, beyond the input's end, nothing can be read. A place there is the reason why a line is no command; `answers::put_reason`
+// has its words, in this order.
 pub const NOWHERE: usize = 1048577;
+
+pub const NO_WORD: usize = NOWHERE;
+
+pub const BAD_NUMBER: usize = NOWHERE + 1;
+
+pub const ABOVE_255: usize = NOWHERE + 2;
+
+pub const BAD_BYTES: usize = NOWHERE + 3;
+
+pub const BYTES_TOO_LONG: usize = NOWHERE + 4;
+
+pub const ROOM_TOO_LARGE: usize = NOWHERE + 5;
+
+pub const BAD_FRAME_COUNT_BIT: usize = NOWHERE + 6;
+
+pub const BAD_OP: usize = NOWHERE + 7;
+
+pub const UNKNOWN_COMMAND: usize = NOWHERE + 8;
+
+pub const NOT_MADE: usize = NOWHERE + 9;
+
+pub const LINE_TOO_LONG: usize = NOWHERE + 10;
 
 // The largest number that is read; each place of a command then asks for less.
 const LARGEST: u32 = 4294967295;
@@ -34,7 +58,10 @@ pub struct Named {
 }
 
 pub fn is_end(input: &Input, at: usize) -> bool {
-    text::byte_is_at(input, at, b'\n')
+    if text::byte_is_at(input, at, b'\n') {
+        return true;
+    }
+    text::begins_at(input, at, b"\r\n")
 }
 
 pub(crate) fn ends_word(input: &Input, at: usize) -> bool {
@@ -96,34 +123,41 @@ fn named_at(number: usize, at: usize, len: usize) -> Named {
 // The place behind a mark of one byte.
 pub fn behind(input: &Input, at: usize, mark: u8) -> usize {
     if INPUT < at {
-        return NOWHERE;
+        return at;
     }
     if input[at] == mark {
         return at + 1;
     }
-    NOWHERE
+    NO_WORD
 }
 
 // A place, if a word ends there.
-pub fn ended(input: &Input, at: usize) -> usize {
+pub fn ended(input: &Input, at: usize, why: usize) -> usize {
+    if INPUT < at {
+        return at;
+    }
     if ends_word(input, at) {
         return at;
     }
-    NOWHERE
+    why
 }
 
-pub(crate) fn no_word() -> Word {
+// No word, and why.
+pub(crate) fn no_word(why: usize) -> Word {
     Word {
         value: 0,
-        next: NOWHERE,
+        next: why,
     }
 }
 
 // The number behind a mark.
 fn number_behind(input: &Input, at: usize, mark: u8) -> Word {
     let digits = behind(input, at, mark);
+    if INPUT < digits {
+        return no_word(digits);
+    }
     let Number::Is { value, next } = text::get_decimal(input, digits, LARGEST) else {
-        return no_word();
+        return no_word(BAD_NUMBER);
     };
     Word { value, next }
 }
@@ -135,7 +169,7 @@ pub fn byte_behind(input: &Input, at: usize, mark: u8) -> ByteWord {
     if 255 < value {
         return ByteWord {
             value: 0,
-            next: NOWHERE,
+            next: ABOVE_255,
         };
     }
     ByteWord {
@@ -149,7 +183,7 @@ pub fn byte_word(input: &Input, at: usize, mark: u8) -> ByteWord {
     let byte = byte_behind(input, at, mark);
     ByteWord {
         value: byte.value,
-        next: ended(input, byte.next),
+        next: ended(input, byte.next, BAD_NUMBER),
     }
 }
 
@@ -161,7 +195,7 @@ pub fn get_number(input: &Input, at: usize) -> Word {
     let word = number_behind(input, at, b' ');
     Word {
         value: word.value,
-        next: ended(input, word.next),
+        next: ended(input, word.next, BAD_NUMBER),
     }
 }
 
@@ -169,5 +203,5 @@ pub fn get_number(input: &Input, at: usize) -> Word {
 pub fn behind_dash(input: &Input, at: usize) -> usize {
     let dash = behind(input, at, b' ');
     let end = behind(input, dash, b'-');
-    ended(input, end)
+    ended(input, end, BAD_BYTES)
 }

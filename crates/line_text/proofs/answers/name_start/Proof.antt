@@ -6,10 +6,10 @@ use Rattle.line_text.proofs.answers.name_start.Statement.{statement}
 use Rattle.line_text.proofs.answers.name_start.Tie as tie
 
 abbrev Inv-loop : tie.InvT-loop
-Inv-loop names number start₀ passed₀ start passed = start ≤ length names
+Inv-loop names number mark start₀ passed₀ start passed = start ≤ length names
 
 abbrev μ-loop : tie.MeasureT-loop
-μ-loop names number start₀ passed₀ start passed = number - passed
+μ-loop names number mark start₀ passed₀ start passed = number - passed
 
 pub name-start-spec : {M : Type 1} → statement M
 name-start-spec =

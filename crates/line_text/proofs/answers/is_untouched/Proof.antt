@@ -2,8 +2,8 @@
 use Prim.Native.Nat.{_-_}
 use borrow.Author.Needs.{needs}
 use lib.ListN.{length}
-use Rattle.bench_link.proofs.parts.is_untouched.Statement.{statement}
-use Rattle.bench_link.proofs.parts.is_untouched.Tie as tie
+use Rattle.line_text.proofs.answers.is_untouched.Statement.{statement}
+use Rattle.line_text.proofs.answers.is_untouched.Tie as tie
 
 abbrev Inv-loop : tie.InvT-loop
 Inv-loop buffer from at₀ at = Unit {0}

@@ -1,8 +1,8 @@
--- `are_byte_strings` is safe and ends: each word ends behind its start.
+-- `byte_strings_end` is safe and ends: each word ends behind its start.
 use Prim.Native.Nat.{_-_}
 use borrow.Author.Needs.{needs}
-use Rattle.bench_diagnostics.proofs.stores.are_byte_strings.Statement.{statement}
-use Rattle.bench_diagnostics.proofs.stores.are_byte_strings.Tie as tie
+use Rattle.bench_diagnostics.proofs.stores.byte_strings_end.Statement.{statement}
+use Rattle.bench_diagnostics.proofs.stores.byte_strings_end.Tie as tie
 
 abbrev Inv-loop : tie.InvT-loop
 Inv-loop input from bytes₀ at₀ bytes at = Unit {0}
@@ -10,8 +10,8 @@ Inv-loop input from bytes₀ at₀ bytes at = Unit {0}
 abbrev μ-loop : tie.MeasureT-loop
 μ-loop input from bytes₀ at₀ bytes at = 18446744073709551616 - at
 
-pub are-byte-strings-spec : {M : Type 1} → statement M
-are-byte-strings-spec =
+pub byte-strings-end-spec : {M : Type 1} → statement M
+byte-strings-end-spec =
     tie.close
     (tie.spec
     Inv-loop

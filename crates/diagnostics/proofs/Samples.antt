@@ -2,9 +2,11 @@
 -- standard does not (`beyond-the-standard`).
 use mathlib.Core.Path.{_≡_, refl, ap, sym, _∙_}
 use mathlib.Core.Bool.{true, false}
-use mathlib.Core.List.{List, [], _∷_}
+use mathlib.Core.List.{List, [], _∷_, _++_}
+use mathlib.Core.Option.{some}
+use lib.ListN.{replicate}
 use Rattle.ground.specs.Part.{shownPart}
-use Rattle.diagnostics_blocks.specs.Modules.{bitOf}
+use Rattle.diagnostics_blocks.specs.Modules.{bitOf, modulesOf, firstOf}
 use Prim.Native.Nat.{ℕ}
 use Rattle.diagnostics_blocks.specs.Channel.{errorOf, typeOf}
 use native.Mathlib.Omega.{arith}
@@ -35,9 +37,12 @@ pub record BadInput : Type 0 where
   pub noSuchBody : bodyOf (0x01 ∷ 0x02 ∷ []) 1 2 ≡ []
   -- a module past the body's end
   pub noSuchModule : bitOf (0xFF ∷ []) 8 ≡ false
+  -- a body longer than any block's: its first module behind 62 bytes is set, and is found
+  pub longBodySet : bitOf (replicate 62 0 ++ 0x01 ∷ []) 496 ≡ true
+  pub longBodyFound : firstOf (replicate 62 0 ++ 0x01 ∷ []) 0 ≡ some 496
 
 pub bad-input : BadInput
-unfolding fillOf stepOf headedBy blockAt lengthOf shownPart bitOf
+unfolding fillOf stepOf headedBy blockAt lengthOf shownPart bitOf modulesOf firstOf
 bad-input = record {
   noStore = refl;
   noStoreNoData = refl;
@@ -50,6 +55,8 @@ bad-input = record {
   pastTheEnd = refl;
   noSuchBody = refl;
   noSuchModule = refl;
+  longBodySet = refl;
+  longBodyFound = refl;
 }
 
 -- bytes that are walked to blocks beyond the standard are no row of it

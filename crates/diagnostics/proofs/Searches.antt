@@ -1,20 +1,18 @@
--- The first module set is what its name says (`first-module`, `no-module`), and asking one after the other gives all that are set
--- (`one-after-the-other`).
+-- The first module set is what its name says, of every body (`first-module`, `no-module`): `first_set` and `is_set` never part. And
+-- asking one after the other gives all that are set (`one-after-the-other`).
 use mathlib.Core.Path.{_≡_, refl}
 use mathlib.Core.Bool.{Bool, true, false}
 use mathlib.Core.List.{List, _∷_}
 use mathlib.Core.Option.{Option, some, none}
-use Prim.Native.Nat.{ℕ, zero, suc, _+_, _-_, _*_, _≤_, _<_}
+use Prim.Native.Nat.{ℕ, zero, suc, _+_, _-_, _/_, _^_, _≤_, _<_}
 use native.Mathlib.Decide.{decLt, ℕ-discrete}
 use native.Mathlib.Numerals.{add-one}
 use native.Mathlib.Omega.{arith}
-use borrow.Author.Tests.{lt-leb}
-use lib.Dec.{leb}
 use lib.ListN.{length}
 use Rattle.ground.specs.Pick.{if}
 use Rattle.diagnostics.specs.Meaning.{FirstSet, asked, setFrom, setOfNext}
 use Rattle.diagnostics_blocks.specs.Modules.{bitOf, firstOf, firstOfNext, modulesOf}
-use Rattle.diagnostics_blocks.proofs.Bits.{bit-past}
+use Rattle.diagnostics_blocks.proofs.Bits.{bit-past, module-inside}
 use Rattle.diagnostics.proofs.Steps.{clash}
 
 -- what an answer of the search says of the k modules from a number
@@ -64,25 +62,16 @@ clear-by (first m low high set clear) e j h p =
     clash (cc)
 clear-by (without clear) e j h p = clear j h p
 
--- a body of a block has a bit for each of its modules
-modules-all : (body : List ℕ) → length body ≤ 62 → modulesOf body ≡ 8 * length body
-unfolding modulesOf
-modules-all body short = by (decLt (length body) 62)
-  where
-    by : Dec (length body < 62) → if (leb 62 (length body)) 496 (8 * length body) ≡ 8 * length body
-    by (yes less) = rw (lt-leb 62 (length body) less)
-    by (no more) =
-        let full : length body ≡ 62 = omega arith in
-        rw full
-
--- where none is answered, no module at or above the number is set
-pub no-module : (body : List ℕ) → length body ≤ 62 → (from : ℕ) → firstOf body from ≡ none → (j : ℕ) → from ≤ j → bitOf body j ≡ false
+-- where none is answered, no module at or above the number is set, of any number that can be asked for
+pub no-module : (body : List ℕ) (from : ℕ) → firstOf body from ≡ none → (j : ℕ) → from ≤ j → j < 2 ^ 64 → bitOf body j ≡ false
 unfolding firstOf
-no-module body short from e j h = by (decLt j (modulesOf body))
+no-module body from e j h small = by (decLt (j / 8) (length body))
   where
-    by : Dec (j < modulesOf body) → bitOf body j ≡ false
-    by (yes inside) = clear-by (searched body (modulesOf body - from) from) e j h (omega arith)
-    by (no past) = bit-past body j (omega (arith, modules-all body short))
+    by : Dec (j / 8 < length body) → bitOf body j ≡ false
+    by (yes inside) =
+        let there : j < modulesOf body = module-inside body j small inside in
+        clear-by (searched body (modulesOf body - from) from) e j h (omega arith)
+    by (no past) = bit-past body j (omega arith)
 
 asked-by : (body : List ℕ) (k from : ℕ) (b : Bool) → modulesOf body - from ≡ suc k
     → setOfNext body k (suc from) ≡ asked body (firstOfNext body k (suc from))

@@ -12,9 +12,9 @@ use Rattle.ground.specs.Part.{byteAt}
 unfoldable pub bitOf : List ℕ → ℕ → Bool
 bitOf body i = eqb (byteAt body (i / 8) / 2 ^ (i % 8) % 2) 1
 
--- the modules that have a bit: eight a byte, of at most 62 bytes, since six bits give a block's length with its header
+-- the modules that have a bit, eight a byte; a module's number is below 2 ^ 64
 unfoldable pub modulesOf : List ℕ → ℕ
-modulesOf body = if (leb 62 (length body)) 496 (8 * length body)
+modulesOf body = if (leb (2 ^ 61) (length body)) (2 ^ 64) (8 * length body)
 
 -- the first of k modules from a number that is set
 abbrev pub firstOfNext : List ℕ → ℕ → ℕ → Option ℕ

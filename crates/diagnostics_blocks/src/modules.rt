@@ -2,10 +2,11 @@
 // gives them as a `BitSlice`. Promises: `bitOf` and `firstOf` in specs/Modules.antt.
 ghost use mathlib.Core.Path.{_≡_};
 ghost use Prim.Native.Nat.{_%_};
-ghost use Rattle.diagnostics_blocks.specs.Modules.{bitOf, firstOf, modulesOf};
+ghost use Rattle.diagnostics_blocks.specs.Modules.{bitOf, firstOf};
 ghost use Rattle.diagnostics_blocks.specs.Shown.{shownModule};
 
-// So many modules have a bit in the longest body, of 62 bytes.
+// So many modules have a bit in the longest body of a block, of 62 bytes: six bits give its length with the header. The calls below
+// take a body of any length.
 pub const MODULES: usize = 496;
 
 // The first module with its bit set, from where it was looked for.
@@ -37,24 +38,16 @@ fn place_of(index: usize) -> u8
 pub fn first_set(body: &[u8], from: usize) -> Module
     ensures { λ r. ⌜ shownModule r ≡ firstOf (now (body .entry)) from ⌝ }
 {
-    let end = modules(body);
     let mut at = from;
-    while at < end {
+    while at / 8 < body.len() {
         if is_set(body, at) {
             return Module::At(at);
+        }
+        // Only a body of 2^61 bytes has a bit for this number, and there is none above it.
+        if at == usize::MAX {
+            return Module::Nothing;
         }
         at += 1;
     }
     Module::Nothing
-}
-
-// How many modules have a bit in the body.
-fn modules(body: &[u8]) -> usize
-    ensures { λ r. ⌜ r ≡ modulesOf (now (body .entry)) ⌝ }
-{
-    if body.len() < 62 {
-        8 * body.len()
-    } else {
-        MODULES
-    }
 }

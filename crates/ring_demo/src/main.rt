@@ -1,11 +1,20 @@
-// A caller of the station list, with a list in a local of its own: document 01's first sample, played, checked and printed. What is checked
-// is proved from the promises of the calls alone.
+// A caller of the station list, with a list in a local of its own: document 01's first sample, played, checked and printed. The list is changed
+// as a bus driver changes it, through the calls that it is lent to. What is checked is proved from the promises of the calls alone.
 use ground::Address;
 use libc::STDOUT_FILENO;
 use token_ring::Found;
 use token_ring::TokenRing;
 ghost use mathlib.Core.Path.{_≡_};
+ghost use Rattle.token_ring.specs.Rules.{witnessed};
 ghost use Rattle.ring_demo.specs.Played.{played, playedOn};
+
+// The list is lent to the driver's call and found changed.
+fn witness(mut ring: TokenRing, sa: Address, da: Address) -> TokenRing
+    ensures { λ r. ⌜ r ≡ witnessed (sa .0) (da .0) ring ⌝ }
+{
+    ring_driver::witness_token_pass(&mut ring, sa, da);
+    ring
+}
 
 // Own 7: 9-2, 2-5, 5-9, 9-2.
 fn discovered() -> TokenRing
@@ -13,10 +22,10 @@ fn discovered() -> TokenRing
 {
     let made = TokenRing::new(Address(7));
     let mut ring = made.ring;
-    ring = ring.witness_token_pass(Address(9), Address(2));
-    ring = ring.witness_token_pass(Address(2), Address(5));
-    ring = ring.witness_token_pass(Address(5), Address(9));
-    ring.witness_token_pass(Address(9), Address(2))
+    ring = witness(ring, Address(9), Address(2));
+    ring = witness(ring, Address(2), Address(5));
+    ring = witness(ring, Address(5), Address(9));
+    witness(ring, Address(9), Address(2))
 }
 
 // Then 2-5, 5-9, 9-2.
@@ -24,9 +33,9 @@ fn verified(mut ring: TokenRing) -> TokenRing
     requires { ⌜ ring ≡ played ⌝ }
     ensures { λ r. ⌜ r ≡ playedOn ⌝ }
 {
-    ring = ring.witness_token_pass(Address(2), Address(5));
-    ring = ring.witness_token_pass(Address(5), Address(9));
-    ring.witness_token_pass(Address(9), Address(2))
+    ring = witness(ring, Address(2), Address(5));
+    ring = witness(ring, Address(5), Address(9));
+    witness(ring, Address(9), Address(2))
 }
 
 fn check_neighbours(ring: TokenRing)

@@ -273,13 +273,21 @@ module _ {M : Type 1} (𝓤 : URA M) (H : Heap 𝓤) (A : Atoms 𝓤) (W : Given
             move ! (6 ∷ 11 ∷ 5 ∷ 10 ∷ 7 ∷ 4 ∷ 9 ∷ 3 ∷ 8 ∷ []) $ free1 ! $ free1 ! $ releases n ls a $ free1 ! $ free1 ! $ free0 ! $
             keep ! (0 ∷ 1 ∷ 2 ∷ []) $ by ! (exits r e))))))))))))
 
-  -- the call meets its contract where the method at its key meets its own
-  pub meets : (n : ℕ) (after : Addresses n → TokenRing → TokenRing) (𝓣 : Tables 𝓤 H) (key : Name) → Triple 𝓤 (𝓣 .C key) (Method 𝓤 H A n after)
+  -- the call gives what the method at its key gives
+  gives : (n : ℕ) (after : Addresses n → TokenRing → TokenRing) (𝓣 : Tables 𝓤 H) (key : Name) → Triple 𝓤 (𝓣 .C key) (Method 𝓤 H A n after)
       → Triple 𝓤 (WpFn 𝓤 H (𝓣 .C) (𝓣 .Λ) (function n key)) (Thin 𝓤 H A n after)
-  meets n after 𝓣 key known y =
+  gives n after 𝓣 key known y =
       let κs = y .0 .0 in
       let x = y .0 .3 in
       via 𝓤 _ (fst∗ 𝓤 _ (emp 𝓤))
       (said 𝓤 H A (thin n .signature) κs (y .0 .1) (ptr-vals, spellings 1 κs n .0) (mut-tells (named 0) (κs .0) T.the-row, spellings 1 κs n .1) x
       (λ vss. WpFn 𝓤 H (𝓣 .C) (𝓣 .Λ) (function n key) (flat (typesAt (thin n .signature .params) κs) vss) (Thin 𝓤 H A n after .post y)) (y .0 .4)
       (λ are. walk κs n after (y .0 .1 .0) (x .0 .ptr .0) (x .0 .ptr .1) (x .0 .name) (x .0 .now) (x .1) (are .1) (𝓣 .C) (𝓣 .Λ) (fmOf 𝓤 H (W .laws) 𝓣) key known))
+
+  -- the call meets its contract where the method at its key gives what the call promises
+  pub meets : (n : ℕ) (after promised : Addresses n → TokenRing → TokenRing) → ((a : Addresses n) (h : TokenRing) → after a h ≡ promised a h)
+      → (𝓣 : Tables 𝓤 H) (key : Name) → Triple 𝓤 (𝓣 .C key) (Method 𝓤 H A n after)
+      → Triple 𝓤 (WpFn 𝓤 H (𝓣 .C) (𝓣 .Λ) (function n key)) (Thin 𝓤 H A n promised)
+  meets n after promised same 𝓣 key known =
+      subst (λ (f : Addresses n → TokenRing → TokenRing). Triple 𝓤 (WpFn 𝓤 H (𝓣 .C) (𝓣 .Λ) (function n key)) (Thin 𝓤 H A n f)) (λ i a h. same a h i)
+      (gives n after 𝓣 key known)

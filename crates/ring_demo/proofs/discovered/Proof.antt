@@ -7,10 +7,10 @@ use Rattle.ring_demo.proofs.discovered.Tie as tie
 
 returns : tie.Need-returns
 returns c =
-    c .witness-token-pass4 .ensures
-    ∙ ap (witnessed 9 2) (c .before .witness-token-pass3 .ensures
-    ∙ ap (witnessed 5 9) (c .before .before .witness-token-pass2 .ensures
-    ∙ ap (witnessed 2 5) (c .before .before .before .witness-token-pass .ensures
+    c .witness4 .ensures
+    ∙ ap (witnessed 9 2) (c .before .witness3 .ensures
+    ∙ ap (witnessed 5 9) (c .before .before .witness2 .ensures
+    ∙ ap (witnessed 2 5) (c .before .before .before .witness .ensures
     ∙ ap (witnessed 9 2) (c .before .before .before .before .before .new .ensures .ring))))
 
 pub discovered-spec : {M : Type 1} → statement M

@@ -7,9 +7,9 @@ use Rattle.ring_demo.proofs.verified.Tie as tie
 
 returns : tie.Need-returns
 returns c =
-    c .witness-token-pass3 .ensures
-    ∙ ap (witnessed 9 2) (c .before .witness-token-pass2 .ensures
-    ∙ ap (witnessed 5 9) (c .before .before .witness-token-pass .ensures
+    c .witness3 .ensures
+    ∙ ap (witnessed 9 2) (c .before .witness2 .ensures
+    ∙ ap (witnessed 5 9) (c .before .before .witness .ensures
     ∙ ap (witnessed 2 5) (c .before .before .before .pre)))
 
 pub verified-spec : {M : Type 1} → statement M

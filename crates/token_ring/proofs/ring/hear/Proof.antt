@@ -5,6 +5,9 @@ use Rattle.token_ring.specs.Rules.{effectOf}
 use Rattle.token_ring.proofs.ring.hear.Statement.{statement}
 use Rattle.token_ring.proofs.ring.hear.Tie as tie
 
+wrap-requires : tie.Need-after-wrap-requires
+wrap-requires c κs = search needs
+
 uninitialized : tie.Need-returns
 unfolding effectOf
 uninitialized c = rw (c .before .enum-told .given .1) (record { state = c .after-wrap .ensures; updated = refl; flags = refl })
@@ -28,7 +31,7 @@ hear-spec =
     tie.close
     (tie.spec
     (λ c. search needs)
-    (λ c κs. search needs)
+    wrap-requires
     (λ c. search needs)
     (λ c κs. search needs)
     (λ c κs. search needs)

@@ -7,7 +7,7 @@ use token_ring::Found;
 use token_ring::TokenRing;
 ghost use mathlib.Core.Path.{_≡_};
 ghost use Rattle.ground.specs.Refusals.{shown};
-ghost use Rattle.token_ring.specs.Rules.{stationAnswer, witnessed};
+ghost use Rattle.token_ring.specs.Rules.{claimed, stationAnswer, witnessed};
 ghost use Rattle.ring_demo.specs.Played.{played, playedOn};
 
 // The list is lent to the driver's call and found changed.
@@ -15,6 +15,13 @@ fn witness(mut ring: TokenRing, sa: Address, da: Address) -> TokenRing
     ensures { λ r. ⌜ r ≡ witnessed (sa .0) (da .0) ring ⌝ }
 {
     ring_driver::witness_token_pass(&mut ring, sa, da);
+    ring
+}
+
+fn claim(mut ring: TokenRing) -> TokenRing
+    ensures { λ r. ⌜ r ≡ claimed ring ⌝ }
+{
+    ring_driver::claim_token(&mut ring);
     ring
 }
 
@@ -50,7 +57,7 @@ fn check_neighbours(ring: TokenRing)
     check::expect(!ring.ready_for_ring());
 }
 
-// Its own answer is all that is asked of a refused call: the list that it was lent is dropped.
+// Of a call that may refuse, the answer alone is asked for; the list that was lent is dropped.
 fn remove(mut ring: TokenRing, address: Address) -> Answer
     ensures { λ r. ⌜ shown r ≡ stationAnswer (address .0) ⌝ }
 {
@@ -68,6 +75,11 @@ fn check_refusals(ring: TokenRing) {
     check::expect(removed.number() == 11);
     let set = set_next(ring, Address(126));
     check::expect(set.number() == 11);
+}
+
+fn check_claim(ring: TokenRing) {
+    let valid = claim(ring);
+    check::expect(valid.ready_for_ring());
 }
 
 fn print_station(address: u8) {
@@ -95,6 +107,7 @@ fn main() {
     let ring = discovered();
     check_neighbours(ring);
     check_refusals(ring);
+    check_claim(ring);
     let valid = verified(ring);
     check::expect(valid.ready_for_ring());
     print_stations(valid);

@@ -1,11 +1,13 @@
 // A caller of the station list, with a list in a local of its own: document 01's first sample, played, checked and printed. The list is changed
 // as a bus driver changes it, through the calls that it is lent to. What is checked is proved from the promises of the calls alone.
 use ground::Address;
+use ground::Answer;
 use libc::STDOUT_FILENO;
 use token_ring::Found;
 use token_ring::TokenRing;
 ghost use mathlib.Core.Path.{_≡_};
-ghost use Rattle.token_ring.specs.Rules.{witnessed};
+ghost use Rattle.ground.specs.Refusals.{shown};
+ghost use Rattle.token_ring.specs.Rules.{claimed, stationAnswer, witnessed};
 ghost use Rattle.ring_demo.specs.Played.{played, playedOn};
 
 // The list is lent to the driver's call and found changed.
@@ -13,6 +15,13 @@ fn witness(mut ring: TokenRing, sa: Address, da: Address) -> TokenRing
     ensures { λ r. ⌜ r ≡ witnessed (sa .0) (da .0) ring ⌝ }
 {
     ring_driver::witness_token_pass(&mut ring, sa, da);
+    ring
+}
+
+fn claim(mut ring: TokenRing) -> TokenRing
+    ensures { λ r. ⌜ r ≡ claimed ring ⌝ }
+{
+    ring_driver::claim_token(&mut ring);
     ring
 }
 
@@ -48,10 +57,29 @@ fn check_neighbours(ring: TokenRing)
     check::expect(!ring.ready_for_ring());
 }
 
-fn check_refusal(ring: TokenRing) {
-    let changed = ring.remove_station(Address(126));
-    let answer = changed.answer;
-    check::expect(answer.number() == 11);
+// Of a call that may refuse, the answer alone is asked for; the list that was lent is dropped.
+fn remove(mut ring: TokenRing, address: Address) -> Answer
+    ensures { λ r. ⌜ shown r ≡ stationAnswer (address .0) ⌝ }
+{
+    ring_driver::remove_station(&mut ring, address)
+}
+
+fn set_next(mut ring: TokenRing, address: Address) -> Answer
+    ensures { λ r. ⌜ shown r ≡ stationAnswer (address .0) ⌝ }
+{
+    ring_driver::set_next_station(&mut ring, address)
+}
+
+fn check_refusals(ring: TokenRing) {
+    let removed = remove(ring, Address(126));
+    check::expect(removed.number() == 11);
+    let set = set_next(ring, Address(126));
+    check::expect(set.number() == 11);
+}
+
+fn check_claim(ring: TokenRing) {
+    let valid = claim(ring);
+    check::expect(valid.ready_for_ring());
 }
 
 fn print_station(address: u8) {
@@ -78,7 +106,8 @@ fn print_stations(ring: TokenRing) {
 fn main() {
     let ring = discovered();
     check_neighbours(ring);
-    check_refusal(ring);
+    check_refusals(ring);
+    check_claim(ring);
     let valid = verified(ring);
     check::expect(valid.ready_for_ring());
     print_stations(valid);

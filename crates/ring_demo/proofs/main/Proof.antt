@@ -23,6 +23,7 @@ main-spec =
     (λ c κs. search needs)
     (λ c κs. search needs)
     (λ c κs. search needs)
+    (λ c κs. search needs)
     ready
     (λ c κs. search needs)
     (λ c. search needs))

@@ -9,27 +9,26 @@ use lib.Dec.{T as Holds}
 use mir.Syntax.{named, tyUnit}
 use mir.Val.{Val, vptr, hasTy, WT}
 use base.Logic.{SProp, ent, sep, emp, via, fst∗, snd∗, exE, id⊢}
-use base.Fml.{Fml, Lft, GName, ftrue, flft, flent, fres, fat, fsep}
+use base.Fml.{Fml, Lft, GName, ftrue, flft, flent, fres, fat}
 use prog.Memory.{Memory}
 use prog.Routine.{Routine}
 use prog.Wp.{Heap, Calls, Loops, WpFn, Tables}
 use ghost.Atoms.{Atoms, sem}
 use contract.Monad.{Fun, fact, fact-use}
 use contract.Running.{givenOf, tables, tablesOf}
-use types.Kit.{Given, ‵, raw, _⊛_, some, later, _$_, _∵_, !, qed, by, move, keep, drop, use1, use2, use3, split, join, pick, fsplit, fjoin, fpick, fpack, feqL, suffices, frame, await, done}
+use types.Kit.{Given, ‵, raw, _⊛_, some, later, _$_, _∵_, !, qed, by, move, keep, drop, use1, use2, use3, split, join, pick, fjoin, feqL, suffices, frame, await, done}
 use types.Tokens.{lft-new, lft-end}
 use types.SemTy.{Body}
 use types.Run.{look, init, forget, stop, from, load, and-then, no-more, of-opd, addr, assigns, land, returns, enter, alloc1, alloc0, params1, pass1, pass0, free1, free0}
 use sound.WpLaws.{FmC, fmOf, WpFn-mono}
 use denote.RattleType.{owns}
 use denote.Laws.{Is, shows}
-use denote.Memory.{cellAt, partOf, mem as memory}
+use denote.Memory.{mem as memory}
 use denote.Ref.{RefT, MutRef}
 use denote.Signature.{plain}
 use denote.Builtin.{unit}
 use denote.Lend.{lends-ref, ref-back}
 use denote.Steps.{only, owned, peeks, nothing}
-use denote.Struct.Steps.{spelt}
 use denote.Struct.Laws as LL
 use denote.Exit.{yes}
 use denote.Triple.Statement.{Contract, Triple}
@@ -52,6 +51,7 @@ use Rattle.ring_driver.proofs.witness_token_pass as call
 use Rattle.ring_driver.proofs.witness_token_pass.Symbol as call-def
 use Rattle.ring_driver.proofs.witness_token_pass.Symbol.{name as #call}
 use Rattle.ring_driver.proofs.witness_token_pass.Met as call-thm
+use Rattle.ring_demo.proofs.Local.{lies-in, lies-out}
 use Rattle.ring_demo.proofs.witness.Key.{name as #witness}
 use Rattle.ring_demo.proofs.witness as lender
 use Rattle.ring_demo.proofs.witness.Statement as stated
@@ -81,23 +81,6 @@ module _ {M : Type 1} (𝓤 : URA M) (H : Heap 𝓤) (A : Atoms 𝓤) (mem : Mem
       fact-use 𝓤 (ws .0 ≡ witnessed (sa .0) (da .0) h) (snd∗ 𝓤 L E) (λ e.
       subst (λ (w : TokenRing). ent 𝓤 (sep 𝓤 L E) (A .res γ (T.the-row .coded .code w))) e (via 𝓤 L (fst∗ 𝓤 L E) (fst∗ 𝓤 (A .res γ (T.the-row .coded .code (ws .0)))
       (sem 𝓤 H A (lastsOf {n = 1} (κ, tt) (plain (λ _. D.the-row) ∷ plain (λ _. D.the-row) ∷ []) (call.ended .kept .1) (sa, (da, tt)) (ws .1)))))))
-
-module _ {M : Type 1} (𝓤 : URA M) (H : Heap 𝓤) (A : Atoms 𝓤) (W : Given 𝓤 H A) (l : ℕ) where
-  -- a local's list as one that can be lent, and back
-  lies-in : (h : TokenRing) → Is T.the-row h (spelled h ∷ []) → ent 𝓤 (H .at fullShare T′.mir l 0 (spelled h)) (sem 𝓤 H A (memory T.the-row .lies h l 0))
-  unfolding partOf
-  lies-in h is =
-      qed W (‵ (fat fullShare T′.mir l 0 (spelled h)) ∷ []) ∵ use1 W (‵ (cellAt fullShare (T.the-row .mir) (spelled h ∷ []) l 0)) (W .laws .at-raw fullShare T′.mir l 0 (spelled h)) $
-      owned ! T.the-row (Is T.the-row) (LL.makes T.the-type T′.the-plain 𝓤 H A) h _ is $ move ! (1 ∷ 0 ∷ []) $ fjoin ! $
-      fpack ! (List Val) (λ vs. fsep (cellAt fullShare (T.the-row .mir) vs l 0) (T.the-row .own h vs)) (spelled h ∷ []) $ done !
-
-  lies-out : (h : TokenRing)
-      → ent 𝓤 (sem 𝓤 H A (memory T.the-row .lies h l 0)) (sep 𝓤 (H .at fullShare T′.mir l 0 (spelled h)) (sem 𝓤 H A (T.the-row .own h (spelled h ∷ []))))
-  unfolding partOf
-  lies-out h =
-      qed W (‵ (memory T.the-row .lies h l 0) ∷ []) ∵ fpick ! (λ vs. fsplit ! $
-      spelt ! T.the-row (Is T.the-row) (shows 𝓤 H A T.the-row) (LL.vals T.the-type T′.the-laws) (LL.tells T.the-type T′.the-laws) fullShare h vs l 0 $
-      use1 W (‵ (fat fullShare T′.mir l 0 (spelled h))) (W .laws .raw-at fullShare T′.mir l 0 (spelled h)) $ done !)
 
 module _ {M : Type 1} (𝓤 : URA M) (H : Heap 𝓤) (A : Atoms 𝓤) (W : Given 𝓤 H A) (mem : Memory → SProp 𝓤) (run : Routine → Fun 𝓤) (h : TokenRing) (sa da : Address)
     (is-h : Is T.the-row h (spelled h ∷ [])) (is-sa : Is D.the-row sa (byte sa ∷ [])) (is-da : Is D.the-row da (byte da ∷ [])) where

@@ -20,6 +20,7 @@ use Rattle.responder_row.proofs.Determined as responderRow
 use Rattle.ring_driver.proofs.Determined as ringDriver
 use Rattle.settings.proofs.Determined as settings
 use Rattle.telegram.proofs.Determined as telegram
+use Rattle.telegram_bytes.proofs.Determined as telegramBytes
 use Rattle.telegram_tx.proofs.Determined as telegramTx
 use Rattle.text.proofs.Determined as text
 use Rattle.token_ring.proofs.Determined as tokenRing
@@ -28,6 +29,7 @@ pub record EveryCall : Type 2 where
   pub ground : ground.Calls
   pub codes : codes.Calls
   pub telegram : telegram.Calls
+  pub telegramBytes : telegramBytes.Calls
   pub telegramTx : telegramTx.Calls
   pub tokenRing : tokenRing.Calls
   pub ringDriver : ringDriver.Calls
@@ -55,6 +57,7 @@ every-call =
       ground = ground.determined;
       codes = codes.determined;
       telegram = telegram.determined;
+      telegramBytes = telegramBytes.determined;
       telegramTx = telegramTx.determined;
       tokenRing = tokenRing.determined;
       ringDriver = ringDriver.determined;

@@ -10,6 +10,7 @@ use Rattle.exports_settings.proofs.Determined as exportsSettings
 use Rattle.exports_stations.proofs.Determined as exportsStations
 use Rattle.exports_telegrams.proofs.Determined as exportsTelegrams
 use Rattle.ground.proofs.Determined as ground
+use Rattle.guards.proofs.Determined as guards
 use Rattle.initiator.proofs.Determined as initiator
 use Rattle.link_rules.proofs.Determined as linkRules
 use Rattle.link_telegrams.proofs.Determined as linkTelegrams
@@ -49,6 +50,7 @@ pub record EveryCall : Type 2 where
   pub exportsDiagnostics : exportsDiagnostics.Calls
   pub exportsSettings : exportsSettings.Calls
   pub exportsLink : exportsLink.Calls
+  pub guards : guards.Calls
   pub exportsGuarded : exportsGuarded.Calls
 
 pub every-call : EveryCall
@@ -77,5 +79,6 @@ every-call =
       exportsDiagnostics = exportsDiagnostics.determined;
       exportsSettings = exportsSettings.determined;
       exportsLink = exportsLink.determined;
+      guards = guards.determined;
       exportsGuarded = exportsGuarded.determined;
     }

@@ -1,7 +1,6 @@
-// What the two guards have in common. Promises: `specs/Guards.antt`.
+// A guard after a call, by the code that the call gave. Promises: `specs/Guards.antt`.
 ghost use mathlib.Core.Path.{_≡_};
-ghost use Rattle.exports_guarded.specs.Guards.{laterOf, nextOf, stampAfter, numberAfter, numberTold};
-ghost use Rattle.exports_link.specs.Calls.{isRefusal};
+ghost use Rattle.guards.specs.Guards.{laterOf, nextOf, stampAfter, numberAfter, numberTold};
 
 // A telegram stands at the front of the buffer.
 const SENT: u8 = 102;
@@ -20,7 +19,7 @@ fn next(n: usize) -> usize
     if n < 18446744073709551615 { n + 1 } else { 0 }
 }
 
-pub(crate) fn stamp_after(code: u8, last: usize, moment: usize) -> usize
+pub fn stamp_after(code: u8, last: usize, moment: usize) -> usize
     ensures { λ r. ⌜ r ≡ stampAfter code last moment ⌝ }
 {
     if code == SENT {
@@ -30,7 +29,7 @@ pub(crate) fn stamp_after(code: u8, last: usize, moment: usize) -> usize
     }
 }
 
-pub(crate) fn number_after(code: u8, handed: usize) -> usize
+pub fn number_after(code: u8, handed: usize) -> usize
     ensures { λ r. ⌜ r ≡ numberAfter code handed ⌝ }
 {
     if code == HANDED_UP {
@@ -40,14 +39,8 @@ pub(crate) fn number_after(code: u8, handed: usize) -> usize
     }
 }
 
-pub(crate) fn number_told(code: u8, handed: usize) -> usize
+pub fn number_told(code: u8, handed: usize) -> usize
     ensures { λ r. ⌜ r ≡ numberTold code handed ⌝ }
 {
     if code == HANDED_UP { next(handed) } else { 0 }
-}
-
-pub(crate) fn is_refusal(code: u8) -> bool
-    ensures { λ r. ⌜ r ≡ isRefusal code ⌝ }
-{
-    if 0 < code { code < 100 } else { false }
 }

@@ -1,8 +1,8 @@
 -- `next` meets its contract: the test picks.
 use borrow.Author.Needs.{needs}
 use borrow.Author.Tests.{lt-ltb, le-ltb}
-use Rattle.exports_guarded.proofs.guard.next.Statement.{statement}
-use Rattle.exports_guarded.proofs.guard.next.Tie as tie
+use Rattle.guards.proofs.guard.next.Statement.{statement}
+use Rattle.guards.proofs.guard.next.Tie as tie
 
 one-more : tie.Need-returns
 one-more c = rw (lt-ltb _ _ (c .if1 .taken))

@@ -1,7 +1,7 @@
 -- `is_refusal` meets its contract: the test picks.
 use borrow.Author.Tests.{lt-ltb, le-ltb}
-use Rattle.exports_guarded.proofs.guard.is_refusal.Statement.{statement}
-use Rattle.exports_guarded.proofs.guard.is_refusal.Tie as tie
+use Rattle.exports_guarded.proofs.refusal.is_refusal.Statement.{statement}
+use Rattle.exports_guarded.proofs.refusal.is_refusal.Tie as tie
 
 above : tie.Need-returns
 above c = rw (lt-ltb 0 _ (c .if1 .taken))

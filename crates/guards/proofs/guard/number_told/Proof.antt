@@ -1,8 +1,8 @@
 -- `number_told` meets its contract: the test picks.
 use borrow.Author.Needs.{needs}
 use borrow.Author.Tests.{eq-eqb, ne-eqb}
-use Rattle.exports_guarded.proofs.guard.number_told.Statement.{statement}
-use Rattle.exports_guarded.proofs.guard.number_told.Tie as tie
+use Rattle.guards.proofs.guard.number_told.Statement.{statement}
+use Rattle.guards.proofs.guard.number_told.Tie as tie
 
 handed-up : tie.Need-returns
 handed-up c = rw (eq-eqb _ _ (c .before .if1 .taken)) (c .next .ensures)

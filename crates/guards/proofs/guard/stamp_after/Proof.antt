@@ -1,8 +1,8 @@
 -- `stamp_after` meets its contract: the test picks.
 use borrow.Author.Needs.{needs}
 use borrow.Author.Tests.{eq-eqb, ne-eqb}
-use Rattle.exports_guarded.proofs.guard.stamp_after.Statement.{statement}
-use Rattle.exports_guarded.proofs.guard.stamp_after.Tie as tie
+use Rattle.guards.proofs.guard.stamp_after.Statement.{statement}
+use Rattle.guards.proofs.guard.stamp_after.Tie as tie
 
 written : tie.Need-returns
 written c = rw (eq-eqb _ _ (c .before .if1 .taken)) (c .later .ensures)

@@ -1,7 +1,7 @@
 -- `later` meets its contract: the test picks.
 use borrow.Author.Tests.{lt-ltb, le-ltb}
-use Rattle.exports_guarded.proofs.guard.later.Statement.{statement}
-use Rattle.exports_guarded.proofs.guard.later.Tie as tie
+use Rattle.guards.proofs.guard.later.Statement.{statement}
+use Rattle.guards.proofs.guard.later.Tie as tie
 
 forward : tie.Need-returns
 forward c = rw (lt-ltb _ _ (c .if1 .taken))

@@ -10,6 +10,7 @@ use Rattle.exports_settings.proofs.Determined as exportsSettings
 use Rattle.exports_stations.proofs.Determined as exportsStations
 use Rattle.exports_telegrams.proofs.Determined as exportsTelegrams
 use Rattle.ground.proofs.Determined as ground
+use Rattle.guards.proofs.Determined as guards
 use Rattle.initiator.proofs.Determined as initiator
 use Rattle.link_rules.proofs.Determined as linkRules
 use Rattle.link_telegrams.proofs.Determined as linkTelegrams
@@ -20,6 +21,7 @@ use Rattle.responder_row.proofs.Determined as responderRow
 use Rattle.ring_driver.proofs.Determined as ringDriver
 use Rattle.settings.proofs.Determined as settings
 use Rattle.telegram.proofs.Determined as telegram
+use Rattle.telegram_bytes.proofs.Determined as telegramBytes
 use Rattle.telegram_tx.proofs.Determined as telegramTx
 use Rattle.text.proofs.Determined as text
 use Rattle.token_ring.proofs.Determined as tokenRing
@@ -28,6 +30,7 @@ pub record EveryCall : Type 2 where
   pub ground : ground.Calls
   pub codes : codes.Calls
   pub telegram : telegram.Calls
+  pub telegramBytes : telegramBytes.Calls
   pub telegramTx : telegramTx.Calls
   pub tokenRing : tokenRing.Calls
   pub ringDriver : ringDriver.Calls
@@ -47,6 +50,7 @@ pub record EveryCall : Type 2 where
   pub exportsDiagnostics : exportsDiagnostics.Calls
   pub exportsSettings : exportsSettings.Calls
   pub exportsLink : exportsLink.Calls
+  pub guards : guards.Calls
   pub exportsGuarded : exportsGuarded.Calls
 
 pub every-call : EveryCall
@@ -55,6 +59,7 @@ every-call =
       ground = ground.determined;
       codes = codes.determined;
       telegram = telegram.determined;
+      telegramBytes = telegramBytes.determined;
       telegramTx = telegramTx.determined;
       tokenRing = tokenRing.determined;
       ringDriver = ringDriver.determined;
@@ -74,5 +79,6 @@ every-call =
       exportsDiagnostics = exportsDiagnostics.determined;
       exportsSettings = exportsSettings.determined;
       exportsLink = exportsLink.determined;
+      guards = guards.determined;
       exportsGuarded = exportsGuarded.determined;
     }

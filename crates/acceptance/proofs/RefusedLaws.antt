@@ -37,7 +37,8 @@ use Rattle.telegram.specs.Picture.{telegramBytes}
 use Rattle.telegram.specs.Reading as reading
 use Rattle.telegram.specs.Reading.{Reading, whole, incomplete}
 use Rattle.telegram_tx.specs.Writing.{leftOf, writeOf, writeFound, bufferFound}
-use Rattle.telegram_tx.specs.declared.coded.CodedHeader.{CodedHeader}
+use Rattle.telegram_bytes.specs.Serialized.{frontOf}
+use Rattle.telegram_bytes.specs.declared.coded.CodedHeader.{CodedHeader}
 use Rattle.telegram_tx.specs.declared.tx.TelegramTxResponse.{TelegramTxResponse}
 use Rattle.token_ring.specs.Rules.{stationAnswer, nextSet, removed}
 use Rattle.token_ring.specs.declared.ring.TokenRing.{TokenRing}
@@ -66,6 +67,11 @@ pub left-alone :
 left-alone made left before same e f r = f ∙ ap left (sym e ∙ r .is) ∙ same (r .number)
 
 -- ---- writing
+
+pub front-stays :
+    (t buf : List ℕ) {x o : OrRefused ℕ} {after : List ℕ} → x ≡ o → after ≡ frontOf o t buf → IsRefused refused x
+    → after ≡ buf
+front-stays t buf e f r = left-alone refused (λ o. frontOf o t buf) buf (λ n. refl) e f r
 
 pub written-stays :
     (t buf : List ℕ) {x o : OrRefused TelegramTxResponse} {after : List ℕ} → x ≡ o → after ≡ leftOf o t buf → IsRefused refused x

@@ -19,7 +19,7 @@
 -- `Initiator::tries`, `Initiator::phase`, `Initiator::order_len`, `Phase::is_pending`, `Phase::tries_used`, `Phase::frame_count_bit`,
 -- `RowHead::held_len`, `RowState::stored_bit`, `RowState::owes_reply`, `RowState::holds_reply`, `Row::state`, `Row::head`,
 -- `Row::held_len`, `Row::held`, `Responder::own`, `Responder::peer`, `Responder::row`, `koy_stations_about`, `koy_stations_is_active`,
--- `koy_diagnostics_module`;
+-- `koy_diagnostics_module`, `stamp_after`, `number_after`, `number_told`;
 -- they say what was found, or that there is nothing: `FunctionCode::from_byte`, `FunctionCode::reply_to_byte`, `RequestType::from_u8`,
 -- `ResponseState::from_u8`, `ResponseStatus::from_u8`, `TokenRing::first_active_from`, `TokenRing::last_active_to`, `first_set`,
 -- `get_decimal`, `request_to`, `request_heard`, `reply_heard`, `RowHead::hear`, `koy_stations_first_from`, `koy_stations_last_to`;
@@ -39,7 +39,7 @@ use mathlib.Core.Path.{_≡_, refl, _∙_}
 use denote.Ref.{now, at-last}
 use lib.Dec.{eqb}
 use lib.ListN.{length, getD, replicate, length-replicate}
-use Rattle.acceptance.proofs.RefusedLaws.{carried, written-stays, coded-stays, settings-stay, listing-stays, station-refused, next-set-stays, removed-stays, FillStays, fill-stays, read-told, WriteStays, write-data-stays, bare-stays, stations-stay, settings-told, SettingsStay, settings-write-stays, walk-moves, StepMoves, step-moves, FillCallStays, fill-call-stays, row-kept}
+use Rattle.acceptance.proofs.RefusedLaws.{carried, front-stays, written-stays, coded-stays, settings-stay, listing-stays, station-refused, next-set-stays, removed-stays, FillStays, fill-stays, read-told, WriteStays, write-data-stays, bare-stays, stations-stay, settings-told, SettingsStay, settings-write-stays, walk-moves, StepMoves, step-moves, FillCallStays, fill-call-stays, row-kept}
 use Rattle.acceptance.proofs.RefusedTurns.{Unmoved, submit-unmoved, silence-unmoved, hear-unmoved, restart-unmoved, responder-hear-unmoved, answer-unmoved, submit-on, silence-on, hear-on, responder-hear-on, answer-on, Uncrossed, Unguarded, new-stays, guarded-new-stays, koy-submit, koy-silence, koy-initiator-hear, koy-restart, koy-responder-hear, koy-answer, stamped-stays, numbered-stays, ignored-stays, other-stays}
 use Rattle.acceptance.specs.Refused.{IsRefused, IsNumber, sized, RefusedLeaves, RefusedStays, RefusedKeeps}
 use Rattle.codes.proofs.frame_count_bit.FrameCountBit.cycle as cycle
@@ -124,6 +124,8 @@ use Rattle.telegram.proofs.frame.frame_of as frameOf
 use Rattle.telegram.proofs.kinds.Telegram.deserialize as deserialize
 use Rattle.telegram.specs.Frames.{shownFrame, frameRefused}
 use Rattle.telegram.specs.Reading as reading
+use Rattle.telegram_bytes.proofs.serialized.serialize as serialize
+use Rattle.telegram_bytes.specs.Serialized.{shownSerialized}
 use Rattle.telegram_tx.proofs.tx.send_coded_telegram as sendCodedTelegram
 use Rattle.telegram_tx.proofs.tx.send_data_telegram as sendDataTelegram
 use Rattle.telegram_tx.proofs.tx.send_fdl_status_request as sendFdlStatusRequest
@@ -151,6 +153,8 @@ pub record EveryRefusal : Type 2 where
       RefusedStays deserialize.ended deserialize.Reads.Learnt (λ κs x. IsRefused reading.refused (reading.shownReading x))
       (λ κs e. e)
   pub frameOf : RefusedStays frameOf.ended frameOf.Reads.Learnt (λ κs x. IsRefused frameRefused (shownFrame x)) (λ κs e. e)
+  pub serialize :
+      RefusedStays serialize.ended serialize.Reads.Learnt (λ κs x. IsRefused refused (shownSerialized x)) (λ κs e. e)
   pub sendDataTelegram :
       RefusedStays sendDataTelegram.ended sendDataTelegram.Reads.Learnt (λ κs x. IsRefused refused (shownWriting x))
       (λ κs e. e)
@@ -302,6 +306,12 @@ refused-stays =
       cycle = record { leaves = λ κs a m r. (refl, refl) };
       deserialize = record { leaves = λ κs a m r. (refl, refl) };
       frameOf = record { leaves = λ κs a m r. (refl, refl) };
+      serialize =
+          record {
+            leaves = λ κs a m r.
+                let p = front-stays _ _ (m .meets .0) (m .meets .1) r in
+                (λ i. (a .0, (a .1 .0, (at-last (a .1 .1 .0) (p i), tt))), refl);
+          };
       sendDataTelegram =
           record {
             leaves = λ κs a m r.

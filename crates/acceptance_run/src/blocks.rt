@@ -81,6 +81,14 @@ fn print_block(block: ExtDiagBlock, diag: ExtendedDiagnostics, store: &[u8]) {
     }
 }
 
+fn print_found(found: Found, diag: ExtendedDiagnostics, store: &[u8]) {
+    match found {
+        Found::Block(block) => print_block(block, diag, store),
+        Found::End => print::text(b" answer=end"),
+        Found::Refused(refusal) => print::refused(refusal),
+    }
+}
+
 fn first(name: &[u8], store: &[u8]) {
     print::sample(name);
     let diag = ExtendedDiagnostics {
@@ -88,11 +96,7 @@ fn first(name: &[u8], store: &[u8]) {
     };
     let step = diag.iter_diag_blocks().next(diag, store);
     let found = step.found;
-    match found {
-        Found::Block(block) => print_block(block, diag, store),
-        Found::End => print::text(b" answer=end"),
-        Found::Refused(refusal) => print::refused(refusal),
-    }
+    print_found(found, diag, store);
     let after = step.iter;
     print::named_decimal(b" cursor=", after.cursor);
     print::end();

@@ -4,7 +4,7 @@ use mathlib.Core.List.{List, [], _∷_}
 use Prim.Native.Nat.{ℕ}
 use Rattle.exports_link.specs.Calls.{Call, NewCall, unlessRefused}
 use Rattle.exports_guarded.specs.Calls.{GuardedCall, madeWith}
-use Rattle.exports_guarded.specs.Guards.{lastOf, stampAfter}
+use Rattle.guards.specs.Guards.{lastOf, stampAfter}
 use Rattle.exports_guarded.specs.InitiatorCalls.{stamped}
 use Rattle.exports_guarded.specs.ResponderCalls.{numbered}
 

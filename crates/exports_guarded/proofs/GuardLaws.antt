@@ -14,7 +14,7 @@ use Rattle.exports_link.specs.Calls.{Call}
 use Rattle.exports_link.specs.InitiatorCalls.{koyInitiatorSubmit, koyInitiatorSilence, koyInitiatorHear}
 use Rattle.exports_link.specs.ResponderCalls.{koyResponderHear, koyResponderAnswer}
 use Rattle.exports_guarded.specs.Calls.{GuardedCall, ignored}
-use Rattle.exports_guarded.specs.Guards.{lastOf, handedOf, isStale, laterOf, nextOf, stampAfter}
+use Rattle.guards.specs.Guards.{lastOf, handedOf, isStale, laterOf, nextOf, stampAfter}
 use Rattle.exports_guarded.specs.InitiatorCalls.{stamped, koyGuardedInitiatorSubmit, koyGuardedInitiatorSilence, koyGuardedInitiatorHear}
 use Rattle.exports_guarded.specs.ResponderCalls.{numbered, koyGuardedResponderHear, koyGuardedResponderAnswer}
 

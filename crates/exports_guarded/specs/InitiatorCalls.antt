@@ -5,7 +5,7 @@ use Rattle.ground.specs.Pick.{if}
 use Rattle.exports_link.specs.Calls.{Call}
 use Rattle.exports_link.specs.InitiatorCalls.{koyInitiatorNew, koyInitiatorSubmit, koyInitiatorSilence, koyInitiatorHear}
 use Rattle.exports_guarded.specs.Calls.{GuardedCall, GuardedNew, madeWith, ignored}
-use Rattle.exports_guarded.specs.Guards.{lastOf, isStale, stampAfter}
+use Rattle.guards.specs.Guards.{lastOf, isStale, stampAfter}
 
 -- a call that is made at this moment, with its stamp
 abbrev pub stamped : List ℕ → ℕ → Call → GuardedCall

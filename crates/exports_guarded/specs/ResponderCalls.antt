@@ -7,7 +7,7 @@ use Rattle.ground.specs.Pick.{if}
 use Rattle.exports_link.specs.Calls.{Call, unlessRefused}
 use Rattle.exports_link.specs.ResponderCalls.{koyResponderNew, koyResponderHear, koyResponderAnswer}
 use Rattle.exports_guarded.specs.Calls.{GuardedCall, GuardedNew, madeWith, ignored}
-use Rattle.exports_guarded.specs.Guards.{lastOf, handedOf, isStale, stampAfter, numberAfter, numberTold}
+use Rattle.guards.specs.Guards.{lastOf, handedOf, isStale, stampAfter, numberAfter, numberTold}
 
 -- a call that is made at this moment: its two numbers and that of an order handed up, its stamp and its count
 abbrev pub numbered : List ℕ → ℕ → List ℕ → Call → GuardedCall

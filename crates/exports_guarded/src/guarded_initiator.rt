@@ -1,12 +1,12 @@
 // The initiator with a stamp beside its record. Promises: `specs/InitiatorCalls.antt`.
 ghost use mathlib.Core.Path.{_≡_};
 ghost use Rattle.exports_guarded.specs.InitiatorCalls.{koyGuardedInitiatorNew, koyGuardedInitiatorSubmit, koyGuardedInitiatorSilence, koyGuardedInitiatorHear};
-use crate::guard::is_refusal;
-use crate::guard::stamp_after;
+use crate::refusal::is_refusal;
 use exports_link::initiator_end::koy_initiator_hear;
 use exports_link::initiator_end::koy_initiator_new;
 use exports_link::initiator_end::koy_initiator_silence;
 use exports_link::initiator_end::koy_initiator_submit;
+use guards::stamp_after;
 
 // Refusals 18 and 19, in this order.
 #[no_mangle]

@@ -3,13 +3,13 @@ ghost use mathlib.Core.Path.{_≡_};
 ghost use mathlib.Core.List.{List, [], _∷_};
 ghost use Prim.Native.Nat.{ℕ};
 ghost use Rattle.exports_guarded.specs.ResponderCalls.{numbered, koyGuardedResponderNew, koyGuardedResponderHear, koyGuardedResponderAnswer};
-use crate::guard::is_refusal;
-use crate::guard::number_after;
-use crate::guard::number_told;
-use crate::guard::stamp_after;
+use crate::refusal::is_refusal;
 use exports_link::responder_end::koy_responder_answer;
 use exports_link::responder_end::koy_responder_hear;
 use exports_link::responder_end::koy_responder_new;
+use guards::number_after;
+use guards::number_told;
+use guards::stamp_after;
 
 // A refused call leaves what is told as it came; it writes no telegram and hands nothing up.
 fn keep(

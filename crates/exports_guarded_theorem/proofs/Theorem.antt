@@ -21,7 +21,7 @@ use Rattle.demand_3.specs.Line.{Pair}
 use Rattle.demand_3.specs.Turns as demand
 use Rattle.demand_3.specs.Turns.{Told, refused, nothing, tells, Turn, refusing}
 use Rattle.exports_guarded.specs.Calls.{GuardedCall}
-use Rattle.exports_guarded.specs.Guards.{handedOf, isStale, nextOf, numberAfter, numberTold, stampAfter}
+use Rattle.guards.specs.Guards.{handedOf, isStale, nextOf, numberAfter, numberTold, stampAfter}
 use Rattle.exports_guarded.specs.InitiatorCalls.{stamped}
 use Rattle.exports_guarded.specs.ResponderCalls.{numbered}
 use Rattle.exports_link.specs.Calls.{Call, isRefusal, unlessRefused, newCall, crossed}

@@ -11,7 +11,7 @@ use Rattle.demand_3.specs.Line.{Pair}
 use Rattle.demand_3.specs.Numbers.{Numbering}
 use Rattle.demand_3.specs.Turns.{Told, Turn}
 use Rattle.exports_guarded.specs.Calls.{GuardedCall, GuardedNew}
-use Rattle.exports_guarded.specs.Guards.{lastOf, handedOf}
+use Rattle.guards.specs.Guards.{lastOf, handedOf}
 use Rattle.exports_guarded.specs.InitiatorCalls.{koyGuardedInitiatorNew, koyGuardedInitiatorSubmit, koyGuardedInitiatorSilence, koyGuardedInitiatorHear}
 use Rattle.exports_guarded.specs.ResponderCalls.{koyGuardedResponderNew, koyGuardedResponderHear, koyGuardedResponderAnswer}
 use Rattle.exports_link.specs.Calls.{Call}

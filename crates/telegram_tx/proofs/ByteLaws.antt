@@ -13,7 +13,7 @@ use Rattle.telegram.specs.Picture.{addressByte, sapBytes, headBytes, coveredByt
 use Rattle.telegram.specs.declared.header.DataTelegramHeader.{DataTelegramHeader}
 use Rattle.telegram.specs.declared.header.SapOption.{SapOption}
 use Rattle.telegram.specs.declared.header.SapOption.the-variants.{Some, None}
-use Rattle.telegram_tx.proofs.LengthLaws.{any-start}
+use Rattle.telegram_bytes.proofs.LengthLaws.{any-start}
 
 address-byte : (a : ℕ) (o : SapOption) → a ≤ 127 → addressByte a o < 256
 address-byte a (Some sap) h = omega arith

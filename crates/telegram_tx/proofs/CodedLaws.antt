@@ -1,10 +1,11 @@
--- Writing by a header whose function code is a byte. What is sent so (`Sends`): one law for each refusal, and one for what is sent; and what
--- it is where the byte came from outside: `no-byte`, `by-byte`.
-use Prim.Native.Nat.{ℕ, _<_, _≤_}
-use mathlib.Core.Path.{_≡_, refl, _∙_, ap}
-use mathlib.Core.Bool.{Bool}
-use mathlib.Core.List.{List, _++_}
-use lib.ListN.{length, drop}
+-- Writing by a header whose function code is a byte: what is sent so (`sends-bytes`, `sends-refusal`); and what it is where the byte came from outside: `no-byte`,
+-- `by-byte`.
+use Prim.Native.Nat.{ℕ, _<_}
+use mathlib.Core.Path.{_≡_, refl, sym, _∙_, ap}
+use mathlib.Core.Bool.{Bool, true, false, _||_}
+use mathlib.Core.List.{List}
+use lib.Dec.{ltb}
+use lib.ListN.{length}
 use Rattle.codes.proofs.FunctionCodeLaws.{written-read}
 use Rattle.codes.specs.FunctionCodes.{codeByte, functionCodeOf, isAnswered, replyFound}
 use Rattle.codes.specs.declared.function_code.FunctionCode.{FunctionCode}
@@ -14,17 +15,17 @@ use Rattle.codes.specs.declared.function_code.FunctionCodeFound.the-variants.{I
 use Rattle.codes.specs.declared.function_code.ReplyFound.the-variants as replyTo
 use Rattle.ground.proofs.Injective.{zero-one}
 use Rattle.ground.specs.Pick.{if}
-use Rattle.ground.specs.Refusals.{refused}
+use Rattle.ground.specs.Refusals.{OrRefused, gives, refused, numberOf}
 use Rattle.ground.specs.declared.address.Address.{Address}
-use Rattle.ground.specs.declared.refusal.Refusal.the-variants as refusal
+use Rattle.ground.specs.declared.refusal.Refusal.{Refusal}
 use Rattle.telegram.specs.Picture.{lengthByte, telegramBytes}
 use Rattle.telegram.specs.declared.header.AddressOption.{AddressOption}
 use Rattle.telegram.specs.declared.header.AddressOption.the-variants.{Some, None}
+use Rattle.telegram_bytes.specs.Serialized.{codedLength, codedBytes, serializeOf, frontOf, serializedTo}
+use Rattle.telegram_bytes.specs.declared.coded.CodedHeader.{CodedHeader}
 use Rattle.telegram_tx.proofs.LengthLaws.{length-coded, telegram-coded}
-use Rattle.telegram_tx.proofs.WritingLaws.{refused-8-da, refused-8-sa, refused-9, refused-10, sent, refused-stays, sent-stands}
-use Rattle.telegram_tx.specs.Leaves.{codedOf, codedLength, codedBytes, keptHeader, Sends}
-use Rattle.telegram_tx.specs.Writing.{shownWriting, replyOf, decoded, writeFound, bufferFound}
-use Rattle.telegram_tx.specs.declared.coded.CodedHeader.{CodedHeader}
+use Rattle.telegram_tx.specs.Leaves.{codedOf, keptHeader, Sends}
+use Rattle.telegram_tx.specs.Writing.{shownWriting, replyOf, sendOf, writeOf, leftOf, bufferOf, decoded, writeFound, bufferFound}
 use Rattle.telegram_tx.specs.declared.tx.TelegramTxResponse.{TelegramTxResponse}
 use Rattle.telegram_tx.specs.declared.tx.TelegramTxResult.{TelegramTxResult}
 use Rattle.telegram_tx.specs.declared.tx.TelegramTxResult.the-variants.{Sent, Refused}
@@ -46,36 +47,57 @@ telegram-decoded h fc pdu e = telegram-coded (decoded h fc) pdu ∙ ap (λ x. co
 
 -- ---- what was sent
 
-module _ (h : CodedHeader) (reply : AddressOption) (pdu buf : List ℕ) where
-  pub sends-8-da : 127 < h .da .0 → Sends h reply pdu buf (Refused refusal.AddressTooLarge) buf
-  sends-8-da p fc e f = refused-stays _ _ _ _ (refused-8-da (decoded h fc) pdu (length buf) p)
+-- the answer of the bytes' writer, with the station that a reply is expected from
+abbrev responding : AddressOption → OrRefused ℕ → OrRefused TelegramTxResponse
+responding reply (gives n) = gives (record { «bytes_sent» = n; «expects_reply» = reply })
+responding reply (refused n) = refused n
 
-  pub sends-8-sa : 127 < h .sa .0 → Sends h reply pdu buf (Refused refusal.AddressTooLarge) buf
-  sends-8-sa p fc e f = refused-stays _ _ _ _ (refused-8-sa (decoded h fc) pdu (length buf) p)
+-- 8, 9, 10 and what is sent, by the same tests
+in-order :
+    (reply : AddressOption) (n : ℕ) (eight nine ten : Bool)
+    → if eight (refused 8) (if nine (refused 9) (if ten (refused 10) (responding reply (gives n))))
+    ≡ responding reply (if eight (refused 8) (if nine (refused 9) (if ten (refused 10) (gives n))))
+in-order reply n true nine ten = refl
+in-order reply n false true ten = refl
+in-order reply n false false true = refl
+in-order reply n false false false = refl
 
-  module _ (da : h .da .0 ≤ 127) (sa : h .sa .0 ≤ 127) where
-    pub sends-9 : 249 < codedLength h pdu → Sends h reply pdu buf (Refused refusal.TooLong) buf
-    sends-9 p fc e f =
-        refused-stays _ _ _ _ (refused-9 (decoded h fc) pdu (length buf) da sa (rw (length-decoded h fc pdu e) p))
+left-responding : (reply : AddressOption) (w : OrRefused ℕ) (t buf : List ℕ) → leftOf (responding reply w) t buf ≡ frontOf w t buf
+left-responding reply (gives n) t buf = refl
+left-responding reply (refused n) t buf = refl
 
-    pub sends-10 :
-        codedLength h pdu ≤ 249 → length buf < length (codedBytes h pdu)
-        → Sends h reply pdu buf (Refused refusal.NoRoom) buf
-    sends-10 p q fc e f =
-        refused-stays _ _ _ _
-        (refused-10 (decoded h fc) pdu (length buf) da sa (rw (length-decoded h fc pdu e) p) (rw (telegram-decoded h fc pdu e) q))
+module _ (h : CodedHeader) (fc : FunctionCode) (pdu : List ℕ) (e : codeByte fc ≡ h .code) where
+  write-decoded : (room : ℕ) → writeOf (decoded h fc) pdu room ≡ responding (replyOf (h .da) fc) (serializeOf h pdu room)
+  unfolding writeOf sendOf serializeOf
+  write-decoded room =
+      rw (length-decoded h fc pdu e, telegram-decoded h fc pdu e)
+      (in-order (replyOf (h .da) fc) (length (codedBytes h pdu)) (ltb 127 (h .da .0) || ltb 127 (h .sa .0)) (ltb 249 (codedLength h pdu))
+      (ltb room (length (codedBytes h pdu))))
 
-    pub sends :
-        (response : TelegramTxResponse) (after : List ℕ)
-        → response ≡ record { «bytes_sent» = length (codedBytes h pdu); «expects_reply» = reply }
-        → codedLength h pdu ≤ 249 → length (codedBytes h pdu) ≤ length buf
-        → after ≡ codedBytes h pdu ++ drop (length (codedBytes h pdu)) buf
-        → Sends h reply pdu buf (Sent response) after
-    sends response after is p q stands fc e f =
-        let same = telegram-decoded h fc pdu e in
-        sent-stands response _ (telegramBytes (decoded h fc) pdu) buf after
-        (rw (is, ← f, ← same) (sent (decoded h fc) pdu (length buf) da sa (rw (length-decoded h fc pdu e) p) (rw same q)))
-        (rw same stands)
+  buffer-decoded : (buf : List ℕ) → bufferOf (decoded h fc) pdu buf ≡ serializedTo h pdu buf
+  buffer-decoded buf =
+      rw (write-decoded, telegram-decoded h fc pdu e) (left-responding (replyOf (h .da) fc) (serializeOf h pdu (length buf)) (codedBytes h pdu) buf)
+
+-- What the bytes' writer answers and leaves is sent so.
+module _ (h : CodedHeader) (reply : AddressOption) (pdu buf after : List ℕ) (left : after ≡ serializedTo h pdu buf) where
+  sends :
+      (w : OrRefused ℕ) (r : TelegramTxResult) → w ≡ serializeOf h pdu (length buf) → shownWriting r ≡ responding reply w
+      → Sends h reply pdu buf r after
+  sends w r is shows fc e f = (
+    shows ∙ rw (is, ← f) (sym (write-decoded h fc pdu e (length buf))),
+    left ∙ sym (buffer-decoded h fc pdu e buf),
+  )
+
+  pub sends-bytes :
+      (n : ℕ) (response : TelegramTxResponse) → gives n ≡ serializeOf h pdu (length buf)
+      → response ≡ record { «bytes_sent» = n; «expects_reply» = reply }
+      → Sends h reply pdu buf (Sent response) after
+  sends-bytes n response is e = sends (gives n) (Sent response) is (ap gives e)
+
+  pub sends-refusal :
+      (refusal : Refusal) → refused (numberOf refusal) ≡ serializeOf h pdu (length buf)
+      → Sends h reply pdu buf (Refused refusal) after
+  sends-refusal refusal is = sends (refused (numberOf refusal)) (Refused refusal) is refl
 
 -- ---- a header with a byte
 

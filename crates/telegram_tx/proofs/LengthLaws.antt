@@ -1,20 +1,15 @@
--- Laws of a telegram's start, and of how long its head, its start and the whole are: of a header whose function code is a byte, and so of
--- any header (`telegram-coded`).
+-- What is written by a header whose function code is a byte is the picture's (`telegram-coded`), and how long the parts of a telegram are.
 use Prim.Native.Nat.{ℕ, _+_, _≤_}
 use mathlib.Core.Path.{_≡_, refl, _∙_}
-use mathlib.Core.List.{List, [], _∷_, _++_}
+use mathlib.Core.List.{List}
 use native.Mathlib.Omega.{arith}
-use lib.Dec.{eqb, lit≤}
-use lib.ListN.{length, length-append}
-use borrow.Author.Tests.{ne-eqb}
-use Rattle.ground.proofs.PickLaws.{picked}
-use Rattle.codes.specs.Delimiters.{SD1, SD2, SD3}
+use lib.ListN.{length}
 use Rattle.telegram.specs.Picture.{sapBytes, headBytes, coveredBytes, lengthByte, startBytes, telegramBytes}
 use Rattle.telegram.specs.declared.header.DataTelegramHeader.{DataTelegramHeader}
-use Rattle.telegram_tx.specs.Leaves.{codedOf, codedHead, codedLength, codedBytes}
-use Rattle.telegram_tx.specs.declared.coded.CodedHeader.{CodedHeader}
+use Rattle.telegram_bytes.proofs.LengthLaws.{coded-length-is, coded-bytes-length, start-short}
+use Rattle.telegram_bytes.specs.Serialized.{codedHead, codedLength, codedBytes}
+use Rattle.telegram_tx.specs.Leaves.{codedOf}
 
--- What the leaves write is the picture's.
 pub length-coded : (h : DataTelegramHeader) (pdu : List ℕ) → lengthByte h pdu ≡ codedLength (codedOf h) pdu
 unfolding lengthByte coveredBytes headBytes codedLength codedHead
 length-coded h pdu = refl
@@ -23,61 +18,13 @@ pub telegram-coded : (h : DataTelegramHeader) (pdu : List ℕ) → telegramBytes
 unfolding telegramBytes lengthByte coveredBytes headBytes codedBytes codedLength codedHead
 telegram-coded h pdu = refl
 
-pub head-length :
-    (h : CodedHeader)
-    → length (codedHead h) ≡ 3 + length (sapBytes (h .dsap)) + length (sapBytes (h .ssap))
-unfolding codedHead
-head-length h = rw length-append (omega arith)
-
-pub coded-length-split : (h : CodedHeader) (pdu : List ℕ) → codedLength h pdu ≡ length (codedHead h) + length pdu
-unfolding codedLength
-coded-length-split h pdu = length-append (codedHead h) pdu
-
 -- "Length byte = PDU + SAPs + 3"
-pub coded-length-is :
-    (h : CodedHeader) (pdu : List ℕ)
-    → codedLength h pdu ≡ length pdu + length (sapBytes (h .dsap)) + length (sapBytes (h .ssap)) + 3
-coded-length-is h pdu = rw (coded-length-split, head-length) (omega arith)
-
 pub length-byte-is :
     (h : DataTelegramHeader) (pdu : List ℕ)
     → lengthByte h pdu ≡ length pdu + length (sapBytes (h .dsap)) + length (sapBytes (h .ssap)) + 3
 length-byte-is h pdu = length-coded h pdu ∙ coded-length-is (codedOf h) pdu
 
--- The start of each length, and what holds of all three holds of any start.
-pub start-3 : (l : ℕ) → l ≡ 3 → startBytes l ≡ SD1 ∷ []
-unfolding startBytes
-start-3 l e = rw e
-
-pub start-11 : (l : ℕ) → l ≡ 11 → startBytes l ≡ SD3 ∷ []
-unfolding startBytes
-start-11 l e = rw e
-
-pub start-else : (l : ℕ) → (l ≡ 3 → ⊥) → (l ≡ 11 → ⊥) → startBytes l ≡ SD2 ∷ l ∷ l ∷ SD2 ∷ []
-unfolding startBytes
-start-else l p q = rw (ne-eqb l 3 p, ne-eqb l 11 q)
-
-pub any-start :
-    (P : List ℕ → Type 0) (l : ℕ) → P (SD1 ∷ []) → P (SD3 ∷ []) → P (SD2 ∷ l ∷ l ∷ SD2 ∷ [])
-    → P (startBytes l)
-unfolding startBytes
-any-start P l sd1 sd3 sd2 = picked P (eqb l 3) (λ e. sd1) (λ e. picked P (eqb l 11) (λ f. sd3) (λ f. sd2))
-
-pub start-some : (l : ℕ) → 1 ≤ length (startBytes l)
-start-some l = any-start (λ s. 1 ≤ length s) l (lit≤ tt) (lit≤ tt) (lit≤ tt)
-
-start-short : (l : ℕ) → length (startBytes l) ≤ 4
-start-short l = any-start (λ s. length s ≤ 4) l (lit≤ tt) (lit≤ tt) (lit≤ tt)
-
 -- "Totals: SD1 6, SD3 14, SD2 L + 6": the start, what the length byte counts, the checksum and the end delimiter.
-pub coded-bytes-length :
-    (h : CodedHeader) (pdu : List ℕ)
-    → length (codedBytes h pdu) ≡ length (startBytes (codedLength h pdu)) + codedLength h pdu + 2
-unfolding codedBytes codedLength
-coded-bytes-length h pdu =
-    let covered : List ℕ = codedHead h ++ pdu in
-    rw (length-append (startBytes (codedLength h pdu) ++ covered), length-append (startBytes (codedLength h pdu)) covered)
-
 pub telegram-length :
     (h : DataTelegramHeader) (pdu : List ℕ)
     → length (telegramBytes h pdu) ≡ length (startBytes (lengthByte h pdu)) + lengthByte h pdu + 2

@@ -12,5 +12,3 @@ mod CodedLaws
 -- how long a telegram's parts are; that all of it is bytes
 pub mod LengthLaws
 pub mod ByteLaws
--- laws of what a leaf leaves in the buffer
-pub mod LeafLaws

@@ -12,7 +12,7 @@ use Rattle.ground.specs.Refusals.{OrRefused, gives, refused}
 use Rattle.telegram.specs.Picture.{lengthByte, telegramBytes}
 use Rattle.telegram.specs.declared.header.AddressOption.{AddressOption}
 use Rattle.telegram.specs.declared.header.DataTelegramHeader.{DataTelegramHeader}
-use Rattle.telegram_tx.proofs.LeafLaws.{sets-stored, front-stored}
+use Rattle.telegram_bytes.proofs.LeafLaws.{sets-stored, front-stored}
 use Rattle.telegram_tx.specs.Writing.{shownWriting, replyOf, sendOf, writeOf, leftOf}
 use Rattle.telegram_tx.specs.declared.tx.TelegramTxResponse.{TelegramTxResponse}
 use Rattle.telegram_tx.specs.declared.tx.TelegramTxResult.{TelegramTxResult}

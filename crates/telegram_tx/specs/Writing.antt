@@ -23,7 +23,7 @@ use Rattle.telegram.specs.declared.header.AddressOption.{AddressOption}
 use Rattle.telegram.specs.declared.header.AddressOption.the-variants.{Some, None}
 use Rattle.telegram.specs.declared.header.DataTelegramHeader.{DataTelegramHeader}
 use Rattle.telegram.specs.declared.header.SapOption.the-variants as sapOption
-use Rattle.telegram_tx.specs.declared.coded.CodedHeader.{CodedHeader}
+use Rattle.telegram_bytes.specs.declared.coded.CodedHeader.{CodedHeader}
 use Rattle.telegram_tx.specs.declared.tx.TelegramTxResponse.{TelegramTxResponse}
 use Rattle.telegram_tx.specs.declared.tx.TelegramTxResult.{TelegramTxResult}
 use Rattle.telegram_tx.specs.declared.tx.TelegramTxResult.the-variants.{Sent, Refused}

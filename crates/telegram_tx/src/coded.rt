@@ -1,26 +1,10 @@
-// A header whose function code is a byte. Promise, among private functions: `codedOf` and `keptHeader` in specs/Leaves.antt.
+// Headers whose function code is a byte. Promise, among private functions: `codedOf` and `keptHeader` in specs/Leaves.antt.
 ghost use mathlib.Core.Path.{_≡_};
 ghost use Prim.Native.Nat.{_<_};
 ghost use Rattle.codes.specs.FunctionCodes.{keptByte};
 ghost use Rattle.telegram_tx.specs.Leaves.{codedOf, keptHeader};
-use ground::Address;
 use telegram::DataTelegramHeader;
-use telegram::SapOption;
-
-// The header of a data telegram, with the byte of its function code in the place of the code: a caller that has the byte is spared
-// decoding it, and the writer encoding it again.
-pub struct CodedHeader {
-    // Destination address
-    pub da: Address,
-    // Source address
-    pub sa: Address,
-    // Destination service access point
-    pub dsap: SapOption,
-    // Source service access point
-    pub ssap: SapOption,
-    // Function code, as a byte
-    pub code: u8,
-}
+use telegram_bytes::CodedHeader;
 
 pub(crate) fn coded_of(header: DataTelegramHeader) -> CodedHeader
     ensures { λ r. ⌜ r ≡ codedOf header ⌝ }

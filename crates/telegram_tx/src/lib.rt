@@ -1,10 +1,8 @@
 // Writing telegrams: profirust's `TelegramTx`, into a buffer that the caller lends.
-pub mod coded;
-mod put;
-mod serialize;
+mod coded;
 pub mod tx;
 
-pub use coded::CodedHeader;
+pub use telegram_bytes::CodedHeader;
 pub use tx::TelegramTxResponse;
 pub use tx::TelegramTxResult;
 pub use tx::send_coded_telegram;

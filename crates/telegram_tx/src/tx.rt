@@ -2,17 +2,13 @@
 // and their twins for a code that comes as a byte, a token and a short confirmation.
 ghost use mathlib.Core.Path.{_≡_};
 ghost use mathlib.Core.List.{[]};
-ghost use Prim.Native.Nat.{_≤_};
 ghost use lib.ListN.{length};
 ghost use Rattle.codes.specs.FunctionCodes.{functionCodeOf};
 ghost use Rattle.ground.specs.Pick.{if};
 ghost use Rattle.telegram_tx.specs.Leaves.{Sends};
 ghost use Rattle.telegram_tx.specs.Writing.{shownWriting, replyOf, writeOf, bufferOf, writeFound, bufferFound, writeTokenOf, tokenBufferOf, writeConfirmationOf, confirmationBufferOf, plainHeader, statusRequest, statusResponse};
-use crate::coded::CodedHeader;
 use crate::coded::coded_of;
 use crate::coded::kept;
-use crate::serialize::length_byte;
-use crate::serialize::serialize;
 use codes::FrameCountBit;
 use codes::FunctionCode;
 use codes::ReplyFound;
@@ -26,6 +22,9 @@ use ground::Refusal;
 use telegram::AddressOption;
 use telegram::DataTelegramHeader;
 use telegram::SapOption;
+use telegram_bytes::CodedHeader;
+use telegram_bytes::Serialized;
+use telegram_bytes::serialize;
 
 // What was written: how many bytes, and who is to answer.
 pub struct TelegramTxResponse {
@@ -82,27 +81,6 @@ fn reply_of(da: Address, fc: FunctionCode) -> AddressOption
     }
 }
 
-// A data telegram whose addresses are fit for it.
-fn send_addressed(
-    header: CodedHeader,
-    expects_reply: AddressOption,
-    pdu: &[u8],
-    buf: &mut [u8],
-) -> TelegramTxResult
-    requires { ⌜ (header .da .0 ≤ 127) × (header .sa .0 ≤ 127) ⌝ }
-    ensures { λ r. ⌜ Sends header «expects_reply» (now (pdu .entry)) (now (buf .entry)) r (now (buf .exit)) ⌝ }
-{
-    let l = length_byte(header, pdu);
-    if 249 < l {
-        return TelegramTxResult::Refused(Refusal::TooLong);
-    }
-    let bytes_sent = serialize(header, pdu, l, buf);
-    if bytes_sent == 0 {
-        return TelegramTxResult::Refused(Refusal::NoRoom);
-    }
-    TelegramTxResult::Sent(TelegramTxResponse::new(bytes_sent, expects_reply))
-}
-
 // A data telegram by the byte of its function code, once it is known that the byte is one and who is to answer.
 fn send_coded(
     header: CodedHeader,
@@ -112,15 +90,12 @@ fn send_coded(
 ) -> TelegramTxResult
     ensures { λ r. ⌜ Sends header «expects_reply» (now (pdu .entry)) (now (buf .entry)) r (now (buf .exit)) ⌝ }
 {
-    let da = header.da;
-    let sa = header.sa;
-    if 127 < da.0 {
-        return TelegramTxResult::Refused(Refusal::AddressTooLarge);
+    match serialize(header, pdu, buf) {
+        Serialized::Bytes(bytes_sent) => {
+            TelegramTxResult::Sent(TelegramTxResponse::new(bytes_sent, expects_reply))
+        }
+        Serialized::Refused(refusal) => TelegramTxResult::Refused(refusal),
     }
-    if 127 < sa.0 {
-        return TelegramTxResult::Refused(Refusal::AddressTooLarge);
-    }
-    send_addressed(header, expects_reply, pdu, buf)
 }
 
 // The PDU goes straight into the buffer behind the header: the Rust's closure becomes its bytes.

@@ -4,7 +4,7 @@ use borrow.Author.Tests.{eq-eqb, ne-eqb}
 use Rattle.exports_guarded.proofs.CallLaws.{keeps}
 use Rattle.exports_guarded.proofs.guarded_responder.koy_guarded_responder_answer.Statement.{statement}
 use Rattle.exports_guarded.proofs.guarded_responder.koy_guarded_responder_answer.Tie as tie
-use Rattle.exports_guarded.specs.Guards.{handedOf}
+use Rattle.guards.specs.Guards.{handedOf}
 
 another : tie.Need-returns
 another c =

@@ -1,0 +1,2 @@
+-- the guard: stamps and numbers
+pub mod Guards

@@ -12,6 +12,7 @@ use Rattle.exports_telegrams.proofs.Determined as exportsTelegrams
 use Rattle.ground.proofs.Determined as ground
 use Rattle.guards.proofs.Determined as guards
 use Rattle.initiator.proofs.Determined as initiator
+use Rattle.link_numbers.proofs.Determined as linkNumbers
 use Rattle.link_rules.proofs.Determined as linkRules
 use Rattle.link_telegrams.proofs.Determined as linkTelegrams
 use Rattle.listing.proofs.Determined as listing
@@ -49,6 +50,7 @@ pub record EveryCall : Type 2 where
   pub exportsStations : exportsStations.Calls
   pub exportsDiagnostics : exportsDiagnostics.Calls
   pub exportsSettings : exportsSettings.Calls
+  pub linkNumbers : linkNumbers.Calls
   pub exportsLink : exportsLink.Calls
   pub guards : guards.Calls
   pub exportsGuarded : exportsGuarded.Calls
@@ -78,6 +80,7 @@ every-call =
       exportsStations = exportsStations.determined;
       exportsDiagnostics = exportsDiagnostics.determined;
       exportsSettings = exportsSettings.determined;
+      linkNumbers = linkNumbers.determined;
       exportsLink = exportsLink.determined;
       guards = guards.determined;
       exportsGuarded = exportsGuarded.determined;

@@ -19,7 +19,8 @@
 -- `Initiator::tries`, `Initiator::phase`, `Initiator::order_len`, `Phase::is_pending`, `Phase::tries_used`, `Phase::frame_count_bit`,
 -- `RowHead::held_len`, `RowState::stored_bit`, `RowState::owes_reply`, `RowState::holds_reply`, `Row::state`, `Row::head`,
 -- `Row::held_len`, `Row::held`, `Responder::own`, `Responder::peer`, `Responder::row`, `koy_stations_about`, `koy_stations_is_active`,
--- `koy_diagnostics_module`, `stamp_after`, `number_after`, `number_told`;
+-- `koy_diagnostics_module`, `stamp_after`, `number_after`, `number_told`,
+-- `phase_number`, `phase_of`, `state_number`, `state_of`;
 -- they say what was found, or that there is nothing: `FunctionCode::from_byte`, `FunctionCode::reply_to_byte`, `RequestType::from_u8`,
 -- `ResponseState::from_u8`, `ResponseStatus::from_u8`, `TokenRing::first_active_from`, `TokenRing::last_active_to`, `first_set`,
 -- `get_decimal`, `request_to`, `request_heard`, `reply_heard`, `RowHead::hear`, `koy_stations_first_from`, `koy_stations_last_to`;

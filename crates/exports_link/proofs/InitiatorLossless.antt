@@ -26,7 +26,8 @@ use Rattle.link_telegrams.specs.declared.heard.ReplyHeard.{ReplyHeard}
 use Rattle.link_telegrams.specs.declared.heard.ReplyHeard.the-variants as heard
 use Rattle.exports_link.proofs.ByteLaws.{length-again}
 use Rattle.exports_link.specs.Bytes.{lengthByte}
-use Rattle.exports_link.specs.InitiatorBytes.{phaseNumber, phaseOf, initiatorOf, initiatorBytes}
+use Rattle.exports_link.specs.InitiatorBytes.{initiatorOf, initiatorBytes}
+use Rattle.link_numbers.specs.Numbers.{phaseNumber, phaseOf}
 
 phase-again : (p : Phase) → phaseOf (phaseNumber p) (usedOf p) ≡ p
 unfolding phaseOf

@@ -34,7 +34,8 @@ use Rattle.responder_row.specs.declared.row.StoredBit.the-variants as stored
 use Rattle.responder.specs.declared.state.Responder.{Responder}
 use Rattle.exports_link.proofs.ByteLaws.{length-again}
 use Rattle.exports_link.specs.Bytes.{lengthByte}
-use Rattle.exports_link.specs.ResponderBytes.{stateNumber, stateOf, responderOf, responderBytes}
+use Rattle.exports_link.specs.ResponderBytes.{responderOf, responderBytes}
+use Rattle.link_numbers.specs.Numbers.{stateNumber, stateOf}
 
 -- the array has 246 bytes, and the reply at most as many
 pub record Sized (row : Row) : Type 0 where

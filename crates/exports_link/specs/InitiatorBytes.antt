@@ -1,30 +1,13 @@
 -- The initiator's record as 252 bytes: own, peer, tries, phase, telegrams written in the phase, the order's length, the order.
 use Prim.Native.Nat.{ℕ}
 use mathlib.Core.List.{List, _∷_}
-use lib.Dec.{eqb}
 use lib.ListN.{drop}
 use Rattle.ground.specs.Part.{byteAt}
-use Rattle.ground.specs.Pick.{if}
-use Rattle.exports_link.specs.Bytes.{byBit, lengthByte}
+use Rattle.exports_link.specs.Bytes.{lengthByte}
 use Rattle.link_rules.specs.Rules.{linkOf}
 use Rattle.initiator.specs.Records.{lenOf, usedOf}
 use Rattle.initiator.specs.declared.state.Initiator.{Initiator}
-use Rattle.initiator.specs.declared.state.Phase.{Phase}
-use Rattle.initiator.specs.declared.state.Phase.the-variants.{Closed, Ready, Opening, Order}
-use Rattle.link_telegrams.specs.declared.headers.Bit.the-variants.{Low, High}
-
-abbrev pub phaseNumber : Phase → ℕ
-phaseNumber Closed = 0
-phaseNumber (Ready b) = byBit b 1 2
-phaseNumber (Opening k) = 3
-phaseNumber (Order b k) = byBit b 4 5
-
--- the phase of a number, with k telegrams written in it; a number that is none of the above counts as closed
-unfoldable pub phaseOf : ℕ → ℕ → Phase
-phaseOf n k =
-    if (eqb n 1) (Ready Low)
-    (if (eqb n 2) (Ready High)
-    (if (eqb n 3) (Opening k) (if (eqb n 4) (Order Low k) (if (eqb n 5) (Order High k) Closed))))
+use Rattle.link_numbers.specs.Numbers.{phaseNumber, phaseOf}
 
 -- the record of these bytes, whatever they are
 abbrev pub initiatorOf : List ℕ → Initiator

@@ -4,9 +4,8 @@ use mathlib.Core.List.{List}
 use lib.Dec.{leb}
 use Rattle.ground.specs.Part.{byteAt}
 use Rattle.ground.specs.Pick.{if}
-use Rattle.exports_link.specs.InitiatorBytes.{phaseOf}
 use Rattle.initiator.specs.declared.head.InitiatorHead.{InitiatorHead}
-use Rattle.exports_link.specs.ResponderBytes.{stateOf}
+use Rattle.link_numbers.specs.Numbers.{phaseOf, stateOf}
 use Rattle.initiator.specs.declared.state.Phase.{Phase}
 use Rattle.link_rules.specs.Rules.{linkOf, longest}
 use Rattle.responder.specs.declared.head.ResponderHead.{ResponderHead}

@@ -3,7 +3,7 @@ ghost use mathlib.Core.Path.{_≡_};
 ghost use mathlib.Core.List.{_++_};
 ghost use Prim.Native.Nat.{_+_};
 ghost use lib.ListN.{length};
-ghost use Rattle.exports_link.specs.Bytes.{byBit, lengthByte};
+ghost use Rattle.exports_link.specs.Bytes.{lengthByte};
 ghost use Rattle.link_rules.specs.Rules.{linkOf};
 ghost use Rattle.exports_link.specs.Calls.{isRefusal};
 ghost use Rattle.exports_link.specs.Leaves.{cappedTo};
@@ -11,7 +11,6 @@ use ground::Address;
 use ground::copy_to_front;
 use link_rules::LONGEST;
 use link_rules::Link;
-use link_telegrams::Bit;
 
 pub(crate) fn is_refusal(code: u8) -> bool
     ensures { λ r. ⌜ r ≡ isRefusal code ⌝ }
@@ -25,15 +24,6 @@ pub(crate) fn link_of(own: u8, peer: u8) -> Link
     Link {
         own: Address(own),
         peer: Address(peer),
-    }
-}
-
-pub(crate) fn by_bit(bit: Bit, low: u8, high: u8) -> u8
-    ensures { λ r. ⌜ r ≡ byBit bit low high ⌝ }
-{
-    match bit {
-        Bit::Low => low,
-        Bit::High => high,
     }
 }
 

@@ -7,9 +7,8 @@ ghost use Rattle.initiator.specs.Calls.{shownSaid};
 ghost use Rattle.initiator.specs.Heads.{wholeOf, shownOn};
 ghost use Rattle.exports_link.specs.Leaves.{initiatorHeadOf, initiatorHeadIn};
 ghost use Rattle.exports_link.specs.Calls.{isRefusal, codeOf, toldOf, crossed};
-ghost use Rattle.exports_link.specs.InitiatorBytes.{phaseNumber, phaseOf, initiatorBytes};
+ghost use Rattle.exports_link.specs.InitiatorBytes.{initiatorBytes};
 ghost use Rattle.exports_link.specs.InitiatorCalls.{outcomeCode, outcomeNumbers, initiatorCrosses, koyInitiatorNew, koyInitiatorSubmit, koyInitiatorSilence, koyInitiatorHear, koyInitiatorRestart};
-use crate::bytes::by_bit;
 use crate::bytes::capped;
 use crate::bytes::is_refusal;
 use crate::bytes::length_byte;
@@ -21,31 +20,8 @@ use initiator::InitiatorAnswer;
 use initiator::InitiatorHead;
 use initiator::InitiatorHeadTurn;
 use initiator::Phase;
-use link_telegrams::Bit;
-
-fn phase_number(phase: Phase) -> u8
-    ensures { λ r. ⌜ r ≡ phaseNumber phase ⌝ }
-{
-    match phase {
-        Phase::Closed => 0,
-        Phase::Ready(bit) => by_bit(bit, 1, 2),
-        Phase::Opening(_) => 3,
-        Phase::Order(bit, _) => by_bit(bit, 4, 5),
-    }
-}
-
-fn phase_of(number: u8, used: u8) -> Phase
-    ensures { λ r. ⌜ r ≡ phaseOf number used ⌝ }
-{
-    match number {
-        1 => Phase::Ready(Bit::Low),
-        2 => Phase::Ready(Bit::High),
-        3 => Phase::Opening(used),
-        4 => Phase::Order(Bit::Low, used),
-        5 => Phase::Order(Bit::High, used),
-        _ => Phase::Closed,
-    }
-}
+use link_numbers::phase_number;
+use link_numbers::phase_of;
 
 // The record without its order, which stays where it is.
 fn head_of(state: &[u8; 252]) -> InitiatorHead

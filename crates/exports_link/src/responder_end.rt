@@ -6,47 +6,22 @@ ghost use lib.ListN.{drop, length};
 ghost use Rattle.responder.specs.Calls.{shownSaid, wholeOf, shownOn};
 ghost use Rattle.exports_link.specs.Leaves.{responderHeadOf};
 ghost use Rattle.exports_link.specs.Calls.{isRefusal, codeOf, toldOf, crossed};
-ghost use Rattle.exports_link.specs.ResponderBytes.{stateNumber, stateOf, responderBytes};
+ghost use Rattle.exports_link.specs.ResponderBytes.{responderBytes};
 ghost use Rattle.exports_link.specs.ResponderCalls.{orderCode, orderNumbers, responderCrosses, koyResponderNew, koyResponderHear, koyResponderAnswer, koyResponderRestart};
-use crate::bytes::by_bit;
 use crate::bytes::is_refusal;
 use crate::bytes::length_byte;
 use crate::bytes::length_of;
 use crate::bytes::link_of;
 use crate::bytes::store;
+use link_numbers::state_number;
+use link_numbers::state_of;
 use link_rules::LONGEST;
-use link_telegrams::Bit;
 use responder::Responder;
 use responder::ResponderAnswer;
 use responder::ResponderHead;
 use responder::ResponderHeadTurn;
 use responder_row::Row;
 use responder_row::RowHead;
-use responder_row::RowState;
-
-fn state_number(state: RowState) -> u8
-    ensures { λ r. ⌜ r ≡ stateNumber state ⌝ }
-{
-    match state {
-        RowState::Blank => 0,
-        RowState::Opened => 1,
-        RowState::Owes(bit) => by_bit(bit, 2, 3),
-        RowState::Holds(bit) => by_bit(bit, 4, 5),
-    }
-}
-
-fn state_of(number: u8) -> RowState
-    ensures { λ r. ⌜ r ≡ stateOf number ⌝ }
-{
-    match number {
-        1 => RowState::Opened,
-        2 => RowState::Owes(Bit::Low),
-        3 => RowState::Owes(Bit::High),
-        4 => RowState::Holds(Bit::Low),
-        5 => RowState::Holds(Bit::High),
-        _ => RowState::Blank,
-    }
-}
 
 // The record without its held reply, which stays where it is.
 fn head_of(state: &[u8; 250]) -> ResponderHead

@@ -15,9 +15,8 @@ use Rattle.demand_3.specs.Turns.{confirmed}
 use Rattle.exports_link.specs.Bytes as bytes
 use Rattle.exports_link.specs.Calls as exported
 use Rattle.exports_link.specs.Calls.{crossed, newCall}
-use Rattle.exports_link.specs.InitiatorBytes.{phaseOf}
 use Rattle.exports_link.specs.InitiatorCalls.{koyInitiatorHear}
-use Rattle.exports_link.specs.ResponderBytes.{stateOf}
+use Rattle.link_numbers.specs.Numbers.{phaseOf, stateOf}
 use Rattle.exports_link_theorem.specs.ExportedLink.{Lent, Found, exportedLink}
 use Rattle.ground.specs.Front.{copiedTo}
 use Rattle.initiator.specs.Calls.{submitOf, silenceOf, hearOf, restartOf}

@@ -15,9 +15,8 @@ use Rattle.demand_3.specs.Live.{Wide, Prompt, passes, passed, opensFirst, order
 use Rattle.exports_link.specs.Bytes as bytes
 use Rattle.exports_link.specs.Calls as exported
 use Rattle.exports_link.specs.Calls.{isRefusal, crossed, newCall}
-use Rattle.exports_link.specs.InitiatorBytes.{phaseOf}
 use Rattle.exports_link.specs.InitiatorCalls.{koyInitiatorSubmit, koyInitiatorHear}
-use Rattle.exports_link.specs.ResponderBytes.{stateOf}
+use Rattle.link_numbers.specs.Numbers.{phaseOf, stateOf}
 use Rattle.exports_link.specs.ResponderCalls.{koyResponderHear}
 use Rattle.exports_link_theorem.proofs.Runs.{link, lent, reply}
 use Rattle.exports_link_theorem.specs.ExportedLink.{Lent, number, outcomeOf, orderOf, turnOf}

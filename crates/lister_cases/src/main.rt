@@ -6,14 +6,11 @@ use libc::STDOUT_FILENO;
 use listing::LISTING_ROOM;
 use listing::Listed;
 
-fn show_in(input: &[u8], text: &mut [u8]) {
-    let listed = listing::output(input, text);
-    io::write_all(STDOUT_FILENO, listed.text(text));
-}
-
 // All that the lister prints for these bytes.
 fn show(input: &[u8]) {
-    show_in(input, &mut [0u8; LISTING_ROOM]);
+    let mut text = [0u8; LISTING_ROOM];
+    let listed = listing::output(input, &mut text);
+    io::write_all(STDOUT_FILENO, listed.text(&text));
 }
 
 fn print_number(name: &[u8], number: usize) {
@@ -38,19 +35,18 @@ fn list_into(input: &[u8], buf: &mut [u8]) {
 
 // What `list` answers where there is always room.
 fn measure(input: &[u8]) {
-    print_answer(listing::list(input, &mut [0u8; LISTING_ROOM]));
-}
-
-fn show_part(both: &[u8], start: usize, len: usize) {
-    show(Part { start, len }.show(both));
+    let mut text = [0u8; LISTING_ROOM];
+    print_answer(listing::list(input, &mut text));
 }
 
 // Two captures of one length.
 fn captures() {
     let mut both = io::large_buffer();
     let len = io::read_full(STDIN_FILENO, &mut both) / 2;
-    show_part(&both, 0, len);
-    show_part(&both, len, len);
+    let first = Part { start: 0, len };
+    let second = Part { start: len, len };
+    show(first.show(&both));
+    show(second.show(&both));
 }
 
 fn ends() {

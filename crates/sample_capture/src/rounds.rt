@@ -90,27 +90,19 @@ fn link_of(own: u8, peer: u8) -> Link {
 
 // The head end opens its link to the cabinet.
 fn put_opening(out: &mut [u8], to: usize) -> usize {
-    put_data(out, to, opening_header(link_of(2, 5)), b"")
-}
-
-fn put_ok(out: &mut [u8], to: usize) -> usize {
-    put_data(out, to, ok_header(link_of(5, 2)), b"")
+    let at = put_data(out, to, opening_header(link_of(2, 5)), b"");
+    put_data(out, at, ok_header(link_of(5, 2)), b"")
 }
 
 // It sends an order, and the cabinet replies.
 fn put_order(out: &mut [u8], to: usize) -> usize {
     let order = order_header(link_of(2, 5), Bit::Low);
-    put_data(out, to, order, b"open-17")
-}
-
-fn put_reply(out: &mut [u8], to: usize) -> usize {
-    put_data(out, to, reply_header(link_of(5, 2)), b"opened-17")
+    let at = put_data(out, to, order, b"open-17");
+    put_data(out, at, reply_header(link_of(5, 2)), b"opened-17")
 }
 
 pub(crate) fn put_events(out: &mut [u8], to: usize) -> usize {
-    let mut at = put_broken_line(out, to);
-    at = put_opening(out, at);
-    at = put_ok(out, at);
-    at = put_order(out, at);
-    put_reply(out, at)
+    let opening = put_broken_line(out, to);
+    let order = put_opening(out, opening);
+    put_order(out, order)
 }

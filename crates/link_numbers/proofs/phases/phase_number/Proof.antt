@@ -1,7 +1,7 @@
 -- `phase_number` meets its contract: each arm is a clause of `phaseNumber`.
 use borrow.Author.Needs.{needs}
-use Rattle.exports_link.proofs.initiator_end.phase_number.Statement.{statement}
-use Rattle.exports_link.proofs.initiator_end.phase_number.Tie as tie
+use Rattle.link_numbers.proofs.phases.phase_number.Statement.{statement}
+use Rattle.link_numbers.proofs.phases.phase_number.Tie as tie
 
 closed : tie.Need-returns
 closed c = rw (c .enum-told .given .1)

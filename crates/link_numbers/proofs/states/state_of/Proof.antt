@@ -1,8 +1,8 @@
 -- `state_of` meets its contract: each arm names the number that it is for, and `stateOf` tests them in the same order.
 use borrow.Author.Tests.{ne-eqb}
-use Rattle.exports_link.specs.ResponderBytes.{stateOf}
-use Rattle.exports_link.proofs.responder_end.state_of.Statement.{statement}
-use Rattle.exports_link.proofs.responder_end.state_of.Tie as tie
+use Rattle.link_numbers.specs.Numbers.{stateOf}
+use Rattle.link_numbers.proofs.states.state_of.Statement.{statement}
+use Rattle.link_numbers.proofs.states.state_of.Tie as tie
 
 opened : tie.Need-returns
 unfolding stateOf

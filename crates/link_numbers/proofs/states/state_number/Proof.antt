@@ -1,7 +1,7 @@
 -- `state_number` meets its contract: each arm is a clause of `stateNumber`.
 use borrow.Author.Needs.{needs}
-use Rattle.exports_link.proofs.responder_end.state_number.Statement.{statement}
-use Rattle.exports_link.proofs.responder_end.state_number.Tie as tie
+use Rattle.link_numbers.proofs.states.state_number.Statement.{statement}
+use Rattle.link_numbers.proofs.states.state_number.Tie as tie
 
 blank : tie.Need-returns
 blank c = rw (c .enum-told .given .1)

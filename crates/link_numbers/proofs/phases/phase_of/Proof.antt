@@ -1,8 +1,8 @@
 -- `phase_of` meets its contract: each arm names the number that it is for, and `phaseOf` tests them in the same order.
 use borrow.Author.Tests.{ne-eqb}
-use Rattle.exports_link.specs.InitiatorBytes.{phaseOf}
-use Rattle.exports_link.proofs.initiator_end.phase_of.Statement.{statement}
-use Rattle.exports_link.proofs.initiator_end.phase_of.Tie as tie
+use Rattle.link_numbers.specs.Numbers.{phaseOf}
+use Rattle.link_numbers.proofs.phases.phase_of.Statement.{statement}
+use Rattle.link_numbers.proofs.phases.phase_of.Tie as tie
 
 ready-low : tie.Need-returns
 unfolding phaseOf

@@ -1,0 +1,2 @@
+-- the numbers of phases and states in the bytes of the two records
+pub mod Numbers

@@ -1,5 +1,5 @@
-// What every crate above shares and what names no telegram: a station's address, the refusals with their numbers, a part of a byte string,
-// and bytes put to the front of a lent buffer.
+// What every crate above shares and what needs neither codes nor telegrams: addresses and SAPs, all refusals with their numbers, a part of a
+// byte string, and bytes put to the front of a lent buffer.
 pub mod address;
 pub mod buffers;
 pub mod part;

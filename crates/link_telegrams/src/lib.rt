@@ -1,5 +1,5 @@
 // The order link's telegrams: which headers they have, and what heard bytes are to an end of the link. What the link does with
-// them is in the crates above, in the words of `specs/Turns.antt`; SRD low, Slave, Ok and DataLow are named here and nowhere else.
+// them is in the crates above, in the words of `specs/Turns.antt`; no rule of the link there names SRD low, Slave, Ok or DataLow.
 pub mod headers;
 pub mod heard;
 

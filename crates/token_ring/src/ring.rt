@@ -122,8 +122,8 @@ fn hear(flags: &mut [bool; 128], state: LasState, sa: usize, da: usize) -> Heard
 }
 
 impl TokenRing {
-    // Beside a refusal stands the list of address 0, so that every list that comes from here and from the calls that change a list has
-    // an own address up to 125.
+    // Beside a refusal stands the list of address 0, so that every list that comes from here, and what the calls make of it, has an own
+    // address up to 125.
     pub fn new(own: Address) -> Changed
         ensures { λ r. ⌜ Gives (stationAnswer (own .0)) (made (own .0)) r ⌝ }
     {

@@ -61,7 +61,7 @@ use Rattle.exports_guarded.proofs.guarded_responder.koy_guarded_responder_answe
 use Rattle.exports_guarded.proofs.guarded_responder.koy_guarded_responder_hear as koyGuardedResponderHear
 use Rattle.exports_guarded.proofs.guarded_responder.koy_guarded_responder_new as koyGuardedResponderNew
 use Rattle.exports_guarded.specs.Calls.{GuardedNew}
-use Rattle.exports_guarded.specs.Guards.{handedOf, isStale}
+use Rattle.guards.specs.Guards.{handedOf, isStale}
 use Rattle.exports_link.proofs.initiator_end.koy_initiator_hear as koyInitiatorHear
 use Rattle.exports_link.proofs.initiator_end.koy_initiator_new as koyInitiatorNew
 use Rattle.exports_link.proofs.initiator_end.koy_initiator_restart as koyInitiatorRestart

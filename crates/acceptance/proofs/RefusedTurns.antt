@@ -11,7 +11,7 @@ use lib.ListN.{length}
 use Rattle.acceptance.proofs.RefusedLaws.{one-number, two-numbers}
 use Rattle.acceptance.specs.Refused.{IsNumber}
 use Rattle.exports_guarded.specs.Calls.{GuardedCall, madeWith, ignored}
-use Rattle.exports_guarded.specs.Guards.{lastOf, handedOf, stampAfter, numberAfter}
+use Rattle.guards.specs.Guards.{lastOf, handedOf, stampAfter, numberAfter}
 use Rattle.exports_guarded.specs.InitiatorCalls.{stamped}
 use Rattle.exports_guarded.specs.ResponderCalls.{numbered}
 use Rattle.exports_link.specs.Calls.{Call, Crossing, isRefusal, unlessRefused, codeOf, crossed, newCall}

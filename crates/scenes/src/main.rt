@@ -1,4 +1,5 @@
-// Plays scenes of the order link. The scenes' names stand on standard input, one a line; an empty line is passed over.
+// Plays scenes of the order link. The scenes' names stand on standard input, one a line; an empty line is passed over. (The scene with the
+// guarded ends is a program of its own, `slow_cabinet_by_number`.)
 mod accident;
 mod cabinet_restart;
 mod dead_line;
@@ -8,7 +9,6 @@ mod made_anew;
 mod restart_in_opening;
 mod restart_in_order;
 mod slow_cabinet;
-mod slow_cabinet_by_number;
 
 use libc::STDERR_FILENO;
 use libc::STDIN_FILENO;
@@ -61,9 +61,6 @@ fn play(name: &[u8]) {
     }
     if is_name(name, b"slow_cabinet") {
         return slow_cabinet::play();
-    }
-    if is_name(name, b"slow_cabinet_by_number") {
-        return slow_cabinet_by_number::play();
     }
     no_scene(name)
 }

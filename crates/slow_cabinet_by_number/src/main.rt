@@ -3,7 +3,7 @@
 // order is confirmed with its own reply.
 //
 // The ends are called as a driver in C calls them: records and guards as lent arrays, a stamp with each call. The stamps are a count of
-// what happens on the line.
+// what happens on the line. It is a program of its own, above the guarded calls, so that the other scenes need not wait for those.
 use exports_guarded::guarded_initiator::koy_guarded_initiator_hear;
 use exports_guarded::guarded_initiator::koy_guarded_initiator_new;
 use exports_guarded::guarded_initiator::koy_guarded_initiator_silence;
@@ -216,7 +216,7 @@ fn cabinet_answers(plant: Plant, now: usize, number: usize, reply: &[u8]) -> Pla
     with_cabinet(plant, state, guard, line, told[0])
 }
 
-pub(crate) fn play() {
+fn main() {
     print(
         b"scene=slow_cabinet_by_number tries=1\nabout=the application answers the first order when the second is handed up, by its number: refused, and the second is confirmed with its own reply\n",
     );

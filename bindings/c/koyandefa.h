@@ -89,7 +89,7 @@ extern "C" {
 #define KOY_SENT 102       /* a telegram stands at the front of the buffer */
 #define KOY_CONFIRMED 103  /* the pending order was carried out exactly once */
 #define KOY_NOT_SENT 104   /* the pending order was never carried out */
-#define KOY_UNKNOWN 105    /* the pending order was carried out at most once */
+#define KOY_UNKNOWN 105    /* the pending order is carried out at most once, perhaps later than this report */
 #define KOY_HANDED_UP 106  /* carry this order out, then answer */
 
 /* ---- numbers ---- */

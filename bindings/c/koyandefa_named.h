@@ -60,39 +60,39 @@ static inline bool koy_is_refusal(size_t code)
     return code > 0 && code < KOY_INCOMPLETE;
 }
 
-/* What a code says, in document 01's words; of a number that no call answers, that it is none. */
+/* What a code says, in the words of the Rust wrapper; of a number that no call answers, that it is none. */
 static inline const char *koy_code_text(size_t code)
 {
     switch (code) {
     case KOY_DONE: return "done, or nothing to do";
-    case KOY_UNKNOWN_START: return "unknown first byte";
-    case KOY_LENGTHS_DIFFER: return "second and third byte differ";
-    case KOY_LENGTH_TOO_SMALL: return "length byte below 3";
-    case KOY_FUNCTION_CODE: return "function code";
-    case KOY_SAP_MISSING: return "no byte left in the content for a SAP";
-    case KOY_CHECKSUM: return "checksum";
-    case KOY_END_DELIMITER: return "end delimiter";
-    case KOY_ADDRESS_TOO_LARGE: return "da or sa above 127";
-    case KOY_TOO_LONG: return "length byte above 249, or a link reply above 246 bytes";
-    case KOY_NO_ROOM: return "buffer too short; link calls that may write want 255 bytes";
-    case KOY_NOT_A_STATION: return "own, set or removed address above 125";
-    case KOY_BLOCK_CUT_OFF: return "block cut off";
-    case KOY_BLOCK_RESERVED: return "block with a reserved header";
-    case KOY_BLOCK_LENGTH_ZERO: return "block of length zero";
-    case KOY_CYCLE_INACTIVE: return "cycling Inactive";
-    case KOY_ORDER_LENGTH: return "order empty or above 246 bytes";
-    case KOY_ORDER_PENDING: return "order already pending";
-    case KOY_LINK_ADDRESSES: return "link addresses above 125 or equal";
-    case KOY_TRIES: return "tries outside 1 to 8";
-    case KOY_SETTINGS_FORM: return "settings form";
-    case KOY_NO_REPLY_OWED: return "answer when none is owed";
-    case KOY_INPUT_TOO_LONG: return "lister input above 4,096 bytes";
+    case KOY_UNKNOWN_START: return "the first byte begins no telegram";
+    case KOY_LENGTHS_DIFFER: return "second and third byte of an SD2 telegram differ";
+    case KOY_LENGTH_TOO_SMALL: return "the length byte of an SD2 telegram is below 3";
+    case KOY_FUNCTION_CODE: return "the byte is no function code";
+    case KOY_SAP_MISSING: return "a SAP that an address announces is missing";
+    case KOY_CHECKSUM: return "the checksum is another";
+    case KOY_END_DELIMITER: return "the last byte is no end delimiter";
+    case KOY_ADDRESS_TOO_LARGE: return "da or sa is above 127";
+    case KOY_TOO_LONG: return "the length byte is above 249, or a link reply above 246 bytes";
+    case KOY_NO_ROOM: return "the buffer is too short; link calls that may write want 255 bytes";
+    case KOY_NOT_A_STATION: return "the own, set or removed address is above 125";
+    case KOY_BLOCK_CUT_OFF: return "the block is cut off";
+    case KOY_BLOCK_RESERVED: return "the block's header is reserved";
+    case KOY_BLOCK_LENGTH_ZERO: return "the block's length is zero";
+    case KOY_CYCLE_INACTIVE: return "an inactive frame count bit is not cycled";
+    case KOY_ORDER_LENGTH: return "the order is empty or above 246 bytes";
+    case KOY_ORDER_PENDING: return "an order is already pending";
+    case KOY_LINK_ADDRESSES: return "a link address is above 125, or both are equal";
+    case KOY_TRIES: return "the tries are outside 1 to 8";
+    case KOY_SETTINGS_FORM: return "the settings text has another form";
+    case KOY_NO_REPLY_OWED: return "an answer is given where none is owed, or for another order";
+    case KOY_INPUT_TOO_LONG: return "the lister's input is above 4,096 bytes";
     case KOY_INCOMPLETE: return "incomplete: too few bytes to tell";
     case KOY_AT_END: return "no more blocks";
     case KOY_SENT: return "a telegram to send";
     case KOY_CONFIRMED: return "confirmed: carried out exactly once";
     case KOY_NOT_SENT: return "not sent: never carried out";
-    case KOY_UNKNOWN: return "unknown: carried out at most once";
+    case KOY_UNKNOWN: return "unknown: carried out at most once, perhaps later than this report";
     case KOY_HANDED_UP: return "an order to carry out";
     default: return "no code of this library";
     }

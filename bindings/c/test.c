@@ -493,7 +493,7 @@ static void texts(void)
         for (size_t other = 0; is_code(code) && other < code; other++)
             CHECK(!is_code(other) || strcmp(koy_code_text(code), koy_code_text(other)) != 0);
     }
-    CHECK(strcmp(koy_code_text(KOY_CHECKSUM), "checksum") == 0 && strcmp(koy_code_text(KOY_TRIES), "tries outside 1 to 8") == 0);
+    CHECK(strcmp(koy_code_text(KOY_CHECKSUM), "the checksum is another") == 0 && strcmp(koy_code_text(KOY_TRIES), "the tries are outside 1 to 8") == 0);
 }
 
 static void sizes(void)

@@ -159,5 +159,5 @@ END {
     if (value(tally, "orders") == "") exit
     print ""
     print "orders " value(tally, "orders") ": confirmed " value(tally, "confirmed") ", not sent " value(tally, "not-sent") ", unknown " \
-        value(tally, "unknown") "; handed up " value(tally, "carried-out")
+        value(tally, "unknown") "; carried out " value(tally, "carried-out")
 }

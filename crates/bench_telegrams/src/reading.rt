@@ -1,4 +1,5 @@
 // `read HEX`, `about HEX`, `fc BYTE`, `cycle FCB`
+use code_names::put_frame_count_bit;
 use codes::Cycled;
 use codes::FrameCountBit;
 use codes::FunctionCode;
@@ -12,7 +13,6 @@ use line_text::answers::put_bool;
 use line_text::answers::put_byte_number;
 use line_text::answers::put_char;
 use line_text::answers::put_error;
-use line_text::answers::put_name;
 use line_text::answers::put_next_byte;
 use line_text::answers::put_next_dash;
 use line_text::answers::put_next_hex;
@@ -182,7 +182,7 @@ fn put_code(out: &mut Out, to: usize, code: FunctionCode) -> usize {
 
 fn put_request(out: &mut Out, to: usize, fcb: FrameCountBit, req: RequestType) -> usize {
     let fcb_at = put_text(out, to, b"request ");
-    let req_at = put_fcb(out, fcb_at, fcb);
+    let req_at = put_frame_count_bit(out, fcb_at, fcb);
     put_next_byte(out, req_at, req.number())
 }
 
@@ -196,19 +196,6 @@ fn put_written(out: &mut Out, to: usize, byte: u8) -> usize {
     let byte_at = put_text(out, to, b" byte=");
     let at = put_byte_number(out, byte_at, byte);
     put_text(out, at, b" reply=")
-}
-
-fn fcb_number(fcb: FrameCountBit) -> usize {
-    match fcb {
-        FrameCountBit::First => 0,
-        FrameCountBit::High => 1,
-        FrameCountBit::Low => 2,
-        FrameCountBit::Inactive => 3,
-    }
-}
-
-fn put_fcb(out: &mut Out, to: usize, fcb: FrameCountBit) -> usize {
-    put_name(out, to, b"First High Low Inactive ", fcb_number(fcb))
 }
 
 // The frame count bit that a line's last word names, or the place that says why it names none.
@@ -249,7 +236,7 @@ pub(crate) fn cycle(input: &Input, at: usize, out: &mut Out, to: usize) -> usize
 
 fn put_cycled(out: &mut Out, to: usize, cycled: Cycled) -> usize {
     match cycled {
-        Cycled::Next(next) => put_fcb(out, to, next),
+        Cycled::Next(next) => put_frame_count_bit(out, to, next),
         Cycled::Refused(refusal) => put_refused(out, to, refusal.number()),
     }
 }

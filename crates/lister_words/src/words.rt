@@ -1,4 +1,8 @@
 // A telegram in words, as the library reads it. The names of codes are the library's own.
+use code_names::put_frame_count_bit;
+use code_names::put_request_type;
+use code_names::put_state;
+use code_names::put_status;
 use codes::FrameCountBit;
 use codes::FunctionCode;
 use codes::RequestType;
@@ -8,99 +12,28 @@ use ground::Address;
 use line_text::answers::Out;
 use line_text::answers::put_byte_number;
 use line_text::answers::put_char;
-use line_text::answers::put_name;
 use line_text::answers::put_text;
 use telegram::DataTelegramHeader;
 use telegram::SapOption;
 use telegram::Telegram;
 use telegram::TokenTelegram;
 
-// The place of a request type's name in the list of names.
-fn request_number(req: RequestType) -> usize {
-    match req {
-        RequestType::ClockValue => 0,
-        RequestType::TimeEvent => 1,
-        RequestType::SdaLow => 2,
-        RequestType::SdnLow => 3,
-        RequestType::SdaHigh => 4,
-        RequestType::SdnHigh => 5,
-        RequestType::MulticastSrd => 6,
-        RequestType::FdlStatus => 7,
-        RequestType::SrdLow => 8,
-        RequestType::SrdHigh => 9,
-        RequestType::Ident => 10,
-        RequestType::LsapStatus => 11,
-    }
-}
-
-fn put_request_type(out: &mut Out, to: usize, req: RequestType) -> usize {
-    put_name(
-        out,
-        to,
-        b"ClockValue TimeEvent SdaLow SdnLow SdaHigh SdnHigh MulticastSrd FdlStatus SrdLow SrdHigh Ident LsapStatus ",
-        request_number(req),
-    )
-}
-
-fn fcb_number(fcb: FrameCountBit) -> usize {
-    match fcb {
-        FrameCountBit::First => 0,
-        FrameCountBit::High => 1,
-        FrameCountBit::Low => 2,
-        FrameCountBit::Inactive => 3,
-    }
-}
-
 fn put_request(out: &mut Out, to: usize, fcb: FrameCountBit, req: RequestType) -> usize {
     let type_at = put_text(out, to, b": request ");
     let at = put_request_type(out, type_at, req);
     let fcb_at = put_text(out, at, b", frame count bit ");
-    let reply_at = put_name(out, fcb_at, b"First High Low Inactive ", fcb_number(fcb));
+    let reply_at = put_frame_count_bit(out, fcb_at, fcb);
     if req.expects_reply() {
         return put_text(out, reply_at, b", wants a reply");
     }
     put_text(out, reply_at, b", wants no reply")
 }
 
-fn state_number(state: ResponseState) -> usize {
-    match state {
-        ResponseState::Slave => 0,
-        ResponseState::MasterNotReady => 1,
-        ResponseState::MasterWithoutToken => 2,
-        ResponseState::MasterInRing => 3,
-    }
-}
-
-// The place of a status's name in the list of names.
-fn status_number(status: ResponseStatus) -> usize {
-    match status {
-        ResponseStatus::Ok => 0,
-        ResponseStatus::UserError => 1,
-        ResponseStatus::NoResources => 2,
-        ResponseStatus::SapNotEnabled => 3,
-        ResponseStatus::DataLow => 4,
-        ResponseStatus::NoDataReady => 5,
-        ResponseStatus::DataHigh => 6,
-        ResponseStatus::NotReceivedDataLow => 7,
-        ResponseStatus::NotReceivedDataHigh => 8,
-    }
-}
-
 fn put_response(out: &mut Out, to: usize, state: ResponseState, status: ResponseStatus) -> usize {
     let state_at = put_text(out, to, b": response, state ");
-    let at = put_name(
-        out,
-        state_at,
-        b"Slave MasterNotReady MasterWithoutToken MasterInRing ",
-        state_number(state),
-    );
+    let at = put_state(out, state_at, state);
     let status_at = put_text(out, at, b", status ");
-    put_name(
-        out,
-        status_at,
-        b"Ok UserError NoResources SapNotEnabled DataLow NoDataReady DataHigh NotReceivedDataLow NotReceivedDataHigh ",
-        status_number(status),
-    )
+    put_status(out, status_at, status)
 }
 
 fn put_code(out: &mut Out, to: usize, code: FunctionCode) -> usize {

@@ -16,13 +16,27 @@ function holder(source, place, len,    k, last) {
         if (file_of[k] == source && start[k] <= last && last <= end[k]) return k
     return 0
 }
-function calls_of(k,    rest, name, m, i, part) {
-    rest = substr(body[k], index(body[k], "(") + 1)
+# The functions that a text calls.
+function called(rest,    name, list) {
     while (match(rest, /[A-Za-z0-9_]+\(/)) {
         name = substr(rest, RSTART, RLENGTH - 1)
         rest = substr(rest, RSTART + RLENGTH)
-        m = split(named[name], part, " ")
-        for (i = 1; i <= m; i++) if (part[i] != k) calls[k, part[i]]
+        list = list named[name]
+    }
+    return list
+}
+function calls_of(k,    m, i, part) {
+    m = split(called(substr(body[k], index(body[k], "(") + 1)), part, " ")
+    for (i = 1; i <= m; i++) if (part[i] != k) calls[k, part[i]]
+}
+# What an edit's new text calls, its functions call below them.
+function calls_anew(e,    x, m, i, j, part) {
+    for (x = 1; x <= pairs[e]; x++) {
+        m = split(called(after[e, x]), part, " ")
+        for (i = 1; i <= m; i++) {
+            anew[e, part[i]]
+            for (j = 1; j <= count; j++) if ((part[i], j) in below) anew[e, j]
+        }
     }
 }
 function reach(from, k,    i) {
@@ -38,7 +52,8 @@ function clash(a, b,    x, y, n, m, part, other) {
     m = split(made_wrong[b], other, " ")
     for (x = 1; x <= n; x++)
         for (y = 1; y <= m; y++)
-            if (part[x] == other[y] || (part[x], other[y]) in below || (other[y], part[x]) in below) return 1
+            if (part[x] == other[y] || (part[x], other[y]) in below || (other[y], part[x]) in below \
+                || (a, other[y]) in anew || (b, part[x]) in anew) return 1
     n = split(brings[a], part, "\n")
     m = split(brings[b], other, "\n")
     for (x = 1; x < n; x++)
@@ -115,6 +130,7 @@ FNR == 1 {
 END {
     for (k = 1; k <= count; k++) calls_of(k)
     for (k = 1; k <= count; k++) reach(k, k)
+    for (e = 1; e <= edits; e++) calls_anew(e)
     for (e = 1; e <= edits; e++) {
         if (e in alone || made_wrong[e] == "") { print 0, edit[e]; continue }
         for (c = 1; c <= checks; c++) {

@@ -2,13 +2,11 @@
 # then its edits, it prints a line for each edit: the number of the check that it goes into, 0 for one that is tried alone; its name; and the
 # functions that it makes wrong, by the end of the prover's name for each.
 #
-# The prover judges function by function, and says of one that is not proved only since it calls another that it is so. Two edits
-# go into one check where they make different functions wrong and none of these calls one of the other's, however far below: then what is said
-# of each function is said of its own edit. An edit of a definition, or of what stands in no function, is tried alone.
+# The prover judges function by function, and where one is not proved only because it calls another, it says so. Two edits go into one check
+# where they make different functions wrong and none of these calls one of the other's, however far below: then what is said of each function is
+# said of its own edit. An edit of a definition, or of what stands in no function, is tried alone. Calls are found by name, so that of two
+# functions with one name both count.
 
-function body_of(line) {
-    body[count] = body[count] "\n" line
-}
 # The function of a file in which the last byte of a text stands that begins at a place; 0 where it stands in none.
 function holder(source, place, len,    k, last) {
     last = place - 1 + len - 1
@@ -90,7 +88,7 @@ FILENAME ~ /\.rt$/ {
         named[name] = named[name] " " count
     }
     if (inside) {
-        body_of($0)
+        body[count] = body[count] "\n" $0
         if ($0 == indent "}") { inside = 0; end[count] = size + length($0) }
     } else if ($0 == "}") type = ""
     text[source] = text[source] $0 "\n"

@@ -1,20 +1,18 @@
 -- Laws of the function code: what is written is read back (`read-written`); what is read is written back, but for bit 7 of a response
 -- (`written-read`); exactly 120 of the 256 bytes are read; a code is read from its bytes and from no other (`code-read-exactly`); and
 -- whether a reply is expected is told by parts of the byte (`request-reply`, `response-reply`).
-use Prim.Native.Nat.{ℕ, zero, suc, _+_, _/_, _%_, _<_}
+use Prim.Native.Nat.{ℕ, _+_, _/_, _%_, _<_}
 use mathlib.Core.Path.{_≡_, refl, ap, _∙_}
 use mathlib.Core.Bool.{Bool, true, false}
-use native.Mathlib.Nat.{add-zero, zero-add, add-suc, suc-add, le-of-suc-le-suc, not-suc-le-zero}
 use native.Mathlib.Omega.{arith}
 use lib.Dec.{eqb, leb}
 use borrow.Author.Tests.{eqb-true, eq-eqb, ne-eqb, leb-true, leb-false}
+use Rattle.codes.proofs.EachNumber.{NoFault, at-each, faultBefore, faultsFrom, no-fault}
 use Rattle.codes.proofs.NumberLaws.{frame-count-part-small, request-number-small, request-type-again, state-number-small, status-again, status-number-small}
 use Rattle.ground.proofs.Injective.{led-back, zero-one}
-use Rattle.ground.proofs.PickLaws.{both-first, both-second}
 use Rattle.codes.specs.FrameCountBits.{frameCountBitOf}
 use Rattle.ground.specs.Bits.{bit}
 use Rattle.codes.specs.FunctionCodes.{requestBits, requestOf, responseOf, functionCodeOf, replyFound, codeByte, CodeRead, asWritten, bit7Set, keptByte, readFrom}
-use Rattle.ground.specs.Pick.{if}
 use Rattle.codes.specs.RequestTypes.{requestNumber, requestTypeOf, expectsReply}
 use Rattle.codes.specs.Responses.{stateOf, statusNumber, statusOf}
 use Rattle.codes.specs.declared.frame_count_bit.FrameCountBit.{FrameCountBit}
@@ -102,18 +100,6 @@ code-byte-small (Response state status) = omega (arith, state-number-small state
 
 -- ---- what is read is written back: computed at all 256 bytes
 
--- A test at each of n numbers from i on, and what it says of one of them.
-allFrom : (ℕ → Bool) → ℕ → ℕ → Bool
-allFrom f i zero = true
-allFrom f i (suc n) = if (f i) (allFrom f (suc i) n) false
-
-at-each : (f : ℕ → Bool) (i n : ℕ) → allFrom f i n ≡ true → (k : ℕ) → k < n → f (i + k) ≡ true
-unfolding allFrom
-at-each f i zero t k h = absurd (not-suc-le-zero h)
-at-each f i (suc n) t zero h = rw add-zero (both-first (f i) (allFrom f (suc i) n) t)
-at-each f i (suc n) t (suc k) h =
-    rw (add-suc, ← suc-add) (at-each f (suc i) n (both-second (f i) (allFrom f (suc i) n) t) k (le-of-suc-le-suc h))
-
 -- Whether writing what a byte was read as gives the byte that it should: computed at all 256.
 kept : ℕ → FunctionCodeFound → Bool
 kept b (Is code) = eqb (codeByte code) (keptByte b)
@@ -122,9 +108,9 @@ kept b Nothing = true
 keptAt : ℕ → Bool
 keptAt b = kept b (functionCodeOf b)
 
-all-kept : allFrom keptAt 0 256 ≡ true
-unfolding allFrom keptAt kept functionCodeOf codeByte requestTypeOf stateOf statusOf
-all-kept = refl
+all-kept : NoFault (faultsFrom keptAt 0 256)
+unfolding faultsFrom faultBefore keptAt kept functionCodeOf codeByte requestTypeOf stateOf statusOf
+all-kept = no-fault
 
 kept-is :
     (b : ℕ) (code : FunctionCode) (found : FunctionCodeFound) → kept b found ≡ true → found ≡ Is code
@@ -136,7 +122,7 @@ kept-is b code Nothing t e = absurd (zero-one (cc))
 -- "Writing gives the same byte back, except that a response loses bit 7."
 pub written-read : (b : ℕ) → b < 256 → (code : FunctionCode) → functionCodeOf b ≡ Is code → codeByte code ≡ keptByte b
 unfolding keptAt
-written-read b h code e = kept-is b code (functionCodeOf b) (rw zero-add at (at-each keptAt 0 256 all-kept b h)) e
+written-read b h code e = kept-is b code (functionCodeOf b) (at-each keptAt 256 all-kept b h) e
 
 -- "So 120 of 256 bytes are read."
 pub exactly-120-are-read : readFrom 0 256 ≡ 120
@@ -240,9 +226,9 @@ isNamed stateFound.Nothing = false
 namedAt : ℕ → Bool
 namedAt n = isNamed (stateOf n)
 
-all-named : allFrom namedAt 0 4 ≡ true
-unfolding allFrom namedAt isNamed stateOf
-all-named = refl
+all-named : NoFault (faultsFrom namedAt 0 4)
+unfolding faultsFrom faultBefore namedAt isNamed stateOf
+all-named = no-fault
 
 any-state :
     (state : ResponseState) (x : ResponseStateFound) (found : ResponseStatusFound) → isNamed x ≡ true
@@ -267,5 +253,5 @@ pub response-reply :
 unfolding namedAt
 response-reply b clear =
     any-state Slave (stateOf (b / 16 % 4)) (statusOf (b % 16))
-    (rw zero-add at (at-each namedAt 0 4 all-named (b / 16 % 4) (omega arith)))
+    (at-each namedAt 4 all-named (b / 16 % 4) (omega arith))
     ∙ ap replyFound (response-read b _ _ clear refl refl)

@@ -1,47 +1,51 @@
--- `FunctionCode::from_byte` meets its contract: its calls find what `functionCodeOf` is made of, on either side of bit 6.
-use mathlib.Core.Path.{refl, sym, _∙_}
+-- `FunctionCode::from_byte` meets its contract: in each row it finds the entry of the byte, `entry_code` says what the digits of an entry say,
+-- and in the table of the code no entry is at fault. That is computed here, once over the whole table; where it fails, the bytes at fault
+-- stand in the message.
+use mathlib.Core.Logic.{⊎-elim}
+use mathlib.Core.Path.{_≡_, _∙_}
 use borrow.Author.Needs.{needs}
-use Rattle.codes.specs.declared.request_type.RequestTypeFound.the-variants as requestFound
-use Rattle.codes.specs.declared.response.ResponseStateFound.the-variants as stateFound
-use Rattle.codes.specs.declared.response.ResponseStatusFound.the-variants as statusFound
-use Rattle.codes.proofs.FunctionCodeLaws.{request-read, response-read}
+use borrow.Table.Row as Row
+use Rattle.codes.proofs.EachNumber.{faultBefore, faultsFrom, no-fault}
+use Rattle.codes.proofs.TableLaws.{agreesAt, entryAt, entryFor, in-row, last-row, table-reads}
+use Rattle.codes.specs.FunctionCodes.{functionCodeOf}
+use Rattle.codes.specs.RequestTypes.{requestTypeOf}
+use Rattle.codes.specs.Responses.{stateOf, statusOf}
+use Rattle.codes.proofs.function_code.FunctionCode.from_byte.Lts as lts
+use Rattle.codes.proofs.function_code.FunctionCode.from_byte.Reads as reads
 use Rattle.codes.proofs.function_code.FunctionCode.from_byte.Statement.{statement}
 use Rattle.codes.proofs.function_code.FunctionCode.from_byte.Tie as tie
+use Rattle.codes.proofs.function_code.at_column.Reads as at-column-reads
+use Rattle.codes.proofs.function_code.entry_code.Reads as entry-code-reads
 
-no-request : tie.Need-returns
-no-request c =
-    let u = c .before .before in
-    request-read _ _ requestFound.Nothing (u .before .if1 .taken) refl (sym (c .enum-told .given .1) ∙ u .from-u8 .ensures)
-
-request : tie.Need-returns-2
-request c =
-    let r = c .before .before in
-    let u = r .before .before in
-    request-read _ _ (requestFound.Is _) (u .before .if1 .taken) (c .from-fcv-fcb .ensures) (sym (r .req .given .1) ∙ u .from-u8 .ensures)
-
-no-state : tie.Need-returns-3
-no-state c =
-    let u = c .before .before in
-    response-read _ stateFound.Nothing _ (u .before .if1 .left) (sym (c .enum-told2 .given .1) ∙ u .from-u82 .ensures) refl
-
-no-status : tie.Need-returns-4
-no-status c =
-    let t = c .before .before in
-    let s = t .before .before in
-    let u = s .before .before in
-    response-read _ (stateFound.Is _) statusFound.Nothing (u .before .if1 .left)
-    (sym (s .state .given .1) ∙ u .from-u82 .ensures)
-    (sym (c .enum-told3 .given .1) ∙ t .from-u83 .ensures)
-
-response : tie.Need-returns-5
-response c =
-    let p = c .before in
-    let t = p .before .before in
-    let s = t .before .before in
-    let u = s .before .before in
-    response-read _ (stateFound.Is _) (statusFound.Is _) (u .before .if1 .left)
-    (sym (s .state .given .1) ∙ u .from-u82 .ensures)
-    (sym (p .status .given .1) ∙ t .from-u83 .ensures)
+-- The table is not said again: it is the code's own, the third local where the rows are told apart. Each row by its arm.
+by-the-table : tie.Need-returns
+unfolding faultsFrom faultBefore agreesAt entryFor functionCodeOf requestTypeOf stateOf statusOf
+by-the-table c =
+    let j = c .before in
+    let s = j .before in
+    let table =
+    Row.get 3 (lts.T57 .locals)
+    (lts.m56 (at-column-reads.Asked, at-column-reads.Learnt, entry-code-reads.Asked, entry-code-reads.Learnt) reads.Pre reads.Post (s .args)
+    (s .blocks)) in
+    let b = s .args .b in
+    let found : j .match .entry ≡ entryAt table b =
+    ⊎-elim (λ w. in-row table b 0 _ (w .0 .keys1) (w .3 ∙ w .2 .ensures))
+    (⊎-elim (λ w. in-row table b 1 _ (w .0 .keys2) (w .3 ∙ w .2 .ensures))
+    (⊎-elim (λ w. in-row table b 2 _ (w .0 .keys3) (w .3 ∙ w .2 .ensures))
+    (⊎-elim (λ w. in-row table b 3 _ (w .0 .keys4) (w .3 ∙ w .2 .ensures))
+    (⊎-elim (λ w. in-row table b 4 _ (w .0 .keys5) (w .3 ∙ w .2 .ensures))
+    (⊎-elim (λ w. in-row table b 5 _ (w .0 .keys6) (w .3 ∙ w .2 .ensures))
+    (⊎-elim (λ w. in-row table b 6 _ (w .0 .keys7) (w .3 ∙ w .2 .ensures))
+    (⊎-elim (λ w. in-row table b 7 _ (w .0 .keys8) (w .3 ∙ w .2 .ensures))
+    (⊎-elim (λ w. in-row table b 8 _ (w .0 .keys9) (w .3 ∙ w .2 .ensures))
+    (⊎-elim (λ w. in-row table b 9 _ (w .0 .keys10) (w .3 ∙ w .2 .ensures))
+    (⊎-elim (λ w. in-row table b 10 _ (w .0 .keys11) (w .3 ∙ w .2 .ensures))
+    (⊎-elim (λ w. in-row table b 11 _ (w .0 .keys12) (w .3 ∙ w .2 .ensures))
+    (⊎-elim (λ w. in-row table b 12 _ (w .0 .keys13) (w .3 ∙ w .2 .ensures))
+    (⊎-elim (λ w. in-row table b 13 _ (w .0 .keys14) (w .3 ∙ w .2 .ensures))
+    (⊎-elim (λ w. in-row table b 14 _ (w .0 .keys15) (w .3 ∙ w .2 .ensures))
+    (λ w. in-row table b 15 _ (last-row _ (search needs) (w .0 .rest)) (w .3 ∙ w .2 .ensures)))))))))))))))) (j .match .came) in
+    c .entry-code .ensures ∙ table-reads table no-fault b (j .match .entry) (search needs) found
 
 pub from-byte-spec : {M : Type 1} → statement M
 from-byte-spec =
@@ -51,16 +55,34 @@ from-byte-spec =
     (λ c. search needs)
     (λ c κs. search needs)
     (λ c. search needs)
-    (λ c. search needs)
-    no-request
-    (λ c κs. search needs)
-    request
     (λ c κs. search needs)
     (λ c. search needs)
-    (λ c. search needs)
-    no-state
     (λ c κs. search needs)
     (λ c. search needs)
+    (λ c κs. search needs)
     (λ c. search needs)
-    no-status
-    response)
+    (λ c κs. search needs)
+    (λ c. search needs)
+    (λ c κs. search needs)
+    (λ c. search needs)
+    (λ c κs. search needs)
+    (λ c. search needs)
+    (λ c κs. search needs)
+    (λ c. search needs)
+    (λ c κs. search needs)
+    (λ c. search needs)
+    (λ c κs. search needs)
+    (λ c. search needs)
+    (λ c κs. search needs)
+    (λ c. search needs)
+    (λ c κs. search needs)
+    (λ c. search needs)
+    (λ c κs. search needs)
+    (λ c. search needs)
+    (λ c κs. search needs)
+    (λ c. search needs)
+    (λ c κs. search needs)
+    (λ c. search needs)
+    (λ c κs. search needs)
+    (λ c κs. search needs)
+    by-the-table)

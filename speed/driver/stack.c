@@ -1,5 +1,5 @@
 /* The stack that a call takes, found by going through it one instruction at a time: how far the stack pointer, or a byte that
-   was written below it, lies under the return address. The return address itself is not counted. */
+   was written below it, lies under the return address. The return address itself is not counted. On the way the instructions are counted. */
 #define _GNU_SOURCE
 #include <signal.h>
 #include <stddef.h>
@@ -11,6 +11,7 @@ enum { BELOW = 16384, PAINT = 0xA5 };
 
 static uintptr_t entry_at, base, lowest;
 static int inside;
+static unsigned long steps;
 
 static void stepped(int number, siginfo_t *info, void *context)
 {
@@ -18,6 +19,8 @@ static void stepped(int number, siginfo_t *info, void *context)
     uintptr_t sp = (uintptr_t)registers[REG_RSP];
     (void)number;
     (void)info;
+    if (inside)
+        steps++;
     if (!inside && (uintptr_t)registers[REG_RIP] == entry_at) {
         inside = 1;
         base = sp;
@@ -45,10 +48,17 @@ size_t deepest_stack(uintptr_t entry, void (*call)(void *), void *with)
     entry_at = entry;
     inside = 0;
     lowest = 0;
+    steps = 0;
     sigaltstack(&own, NULL);
     sigaction(SIGTRAP, &action, NULL);
     __asm__ volatile("pushfq\n\torq $0x100, (%%rsp)\n\tpopfq" ::: "memory", "cc");
     call(with);
     __asm__ volatile("pushfq\n\tandq $~0x100, (%%rsp)\n\tpopfq" ::: "memory", "cc");
     return lowest;
+}
+
+/* How many instructions the calls of that function took, the last time. */
+unsigned long steps_taken(void)
+{
+    return steps;
 }

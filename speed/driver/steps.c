@@ -1,73 +1,42 @@
-/* Counts the instructions of koy_read and the stack that it takes, by going through each call one instruction at a time: for machines on
-   which valgrind cannot run the library. The cases are those of telegrams.rs, under the same names, and then every function code. */
-#define _GNU_SOURCE
-#include <signal.h>
+/* Counts the instructions of koy_read and the stack that it takes, by going through each call one instruction at a time (stack.c): for machines
+   on which valgrind cannot run the library. The cases are those of telegrams.rs, under the same names, and then every function code. */
 #include <stddef.h>
 #include <stdint.h>
 #include <stdio.h>
-#include <string.h>
-#include <ucontext.h>
 
 uint8_t koy_read(const uint8_t *bytes, size_t len, size_t told[9]);
 uint8_t koy_write_data(uint8_t da, uint8_t sa, size_t dsap, size_t ssap, uint8_t fc, const uint8_t *pdu, size_t pdu_len, uint8_t *buf,
                        size_t buf_len, size_t told[2]);
+size_t deepest_stack(uintptr_t entry, void (*call)(void *), void *with);
+unsigned long steps_taken(void);
 
-enum { ABSENT = 256, SRD_LOW = 0x5C, LONGEST = 255, BELOW = 16384, PAINT = 0xA5 };
+enum { ABSENT = 256, SRD_LOW = 0x5C, LONGEST = 255 };
 
-static unsigned long steps;
-static uintptr_t base, lowest;
-static int inside;
-
-/* How far below the return address a byte was written. */
-static uintptr_t written(void)
-{
-    uintptr_t at = base - BELOW;
-    while (at < base && *(uint8_t *)at == PAINT)
-        at++;
-    return base - at;
-}
-
-/* Called behind every instruction. */
-static void stepped(int number, siginfo_t *info, void *context)
-{
-    greg_t *registers = ((ucontext_t *)context)->uc_mcontext.gregs;
-    uintptr_t sp = (uintptr_t)registers[REG_RSP];
-    (void)number;
-    (void)info;
-    if (inside)
-        steps++;
-    if (!inside && (uintptr_t)registers[REG_RIP] == (uintptr_t)koy_read) {
-        inside = 1;
-        base = sp;
-        memset((void *)(sp - BELOW), PAINT, BELOW);
-    }
-    if (inside && sp > base) {
-        /* it has returned */
-        if (written() > lowest)
-            lowest = written();
-        inside = 0;
-    }
-    if (inside && base - sp > lowest)
-        lowest = base - sp;
-}
-
-/* Reads, and leaves the figures of the call in `steps` and `lowest`. */
-static uint8_t counted(const uint8_t *bytes, size_t len)
-{
-    size_t told[9];
+struct reading {
+    const uint8_t *bytes;
+    size_t len;
     uint8_t code;
-    steps = 0;
-    lowest = 0;
-    __asm__ volatile("pushfq\n\torq $0x100, (%%rsp)\n\tpopfq" ::: "memory", "cc");
-    code = koy_read(bytes, len, told);
-    __asm__ volatile("pushfq\n\tandq $~0x100, (%%rsp)\n\tpopfq" ::: "memory", "cc");
-    return code;
+    size_t stack;
+};
+
+static void call(void *with)
+{
+    struct reading *reading = with;
+    size_t told[9];
+    reading->code = koy_read(reading->bytes, reading->len, told);
+}
+
+static struct reading counted(const uint8_t *bytes, size_t len)
+{
+    struct reading reading = {.bytes = bytes, .len = len};
+    reading.stack = deepest_stack((uintptr_t)koy_read, call, &reading);
+    return reading;
 }
 
 static void read_case(const char *name, const uint8_t *bytes, size_t len)
 {
-    uint8_t code = counted(bytes, len);
-    printf("case=read-%s ours=%lu stack=%lu code=%u\n", name, steps, (unsigned long)lowest, code);
+    struct reading reading = counted(bytes, len);
+    printf("case=read-%s ours=%lu stack=%zu code=%u\n", name, steps_taken(), reading.stack, reading.code);
 }
 
 static void read_sized(const char *name, size_t pdu_len, const uint8_t *bytes, size_t len)
@@ -102,9 +71,9 @@ static void whole(void)
 static void incomplete(void)
 {
     uint8_t buf[LONGEST];
+    telegram(ABSENT, ABSENT, 32, buf);
     read_case("nothing", buf, 0);
     read_case("incomplete-5", (const uint8_t[]){0x68, 5, 5, 0x68, 5}, 5);
-    telegram(ABSENT, ABSENT, 32, buf);
     read_case("incomplete-8", buf, 8);
 }
 
@@ -137,8 +106,9 @@ static void codes(const char *name, enum kind wanted)
     unsigned long least = ~0UL, most = 0, all = 0, count = 0;
     for (unsigned b = 0; b < 256; b++) {
         const uint8_t bytes[6] = {0x10, 5, 2, (uint8_t)b, (uint8_t)(7 + b), 0x16};
-        uint8_t code = counted(bytes, sizeof bytes);
-        enum kind is = code != 0 ? NONE : b / 64 % 2 == 1 ? REQUEST : RESPONSE;
+        struct reading reading = counted(bytes, sizeof bytes);
+        enum kind is = reading.code != 0 ? NONE : b / 64 % 2 == 1 ? REQUEST : RESPONSE;
+        unsigned long steps = steps_taken();
         if (is != wanted)
             continue;
         least = steps < least ? steps : least;
@@ -151,11 +121,6 @@ static void codes(const char *name, enum kind wanted)
 
 int main(void)
 {
-    static char handlers_own[65536];
-    stack_t own = {.ss_sp = handlers_own, .ss_size = sizeof handlers_own};
-    struct sigaction action = {.sa_sigaction = stepped, .sa_flags = SA_SIGINFO | SA_ONSTACK};
-    sigaltstack(&own, NULL);
-    sigaction(SIGTRAP, &action, NULL);
     whole();
     incomplete();
     refused();

@@ -47,9 +47,9 @@
 
 /* the version of this header and of the archives that it goes with */
 #define KOY_VERSION_MAJOR 0
-#define KOY_VERSION_MINOR 2
+#define KOY_VERSION_MINOR 3
 #define KOY_VERSION_PATCH 0
-#define KOY_VERSION "0.2.0"
+#define KOY_VERSION "0.3.0"
 
 #ifdef __cplusplus
 extern "C" {
@@ -117,7 +117,7 @@ extern "C" {
 /* telegrams in each phase of an order, before it is given up */
 #define KOY_LEAST_TRIES 1
 #define KOY_MOST_TRIES 8
-#define KOY_DEFAULT_TRIES 2
+#define KOY_DEFAULT_TRIES 4
 
 /* kinds of telegrams */
 #define KOY_SHORT_CONFIRMATION 1

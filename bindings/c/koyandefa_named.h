@@ -305,7 +305,7 @@ typedef struct {
     uint8_t tries;
 } koy_settings;
 
-/* With the default of tries. */
+/* No number of tries stated: KOY_DEFAULT_TRIES. */
 static inline koy_settings koy_settings_own_peer(uint8_t own, uint8_t peer)
 {
     koy_settings settings = {own, peer, KOY_DEFAULT_TRIES};

@@ -284,13 +284,18 @@ static koy_heard received(size_t stamp)
     return koy_heard_at(stamp, line, line_length);
 }
 
+static void made_by(koy_settings one)
+{
+    CHECK(koy_head_end_new(&head_end, 100, one) == KOY_DONE);
+    CHECK(koy_cabinet_new(&cabinet, 1000, koy_settings_own_peer(5, 2)) == KOY_DONE);
+    CHECK(koy_head_end_phase(&head_end) == KOY_HEAD_END_CLOSED && koy_cabinet_phase(&cabinet) == KOY_CABINET_BLANK);
+}
+
 static void made(size_t tries)
 {
     koy_settings one = koy_settings_own_peer(2, 5);
     one.tries = (uint8_t)tries;
-    CHECK(koy_head_end_new(&head_end, 100, one) == KOY_DONE);
-    CHECK(koy_cabinet_new(&cabinet, 1000, koy_settings_own_peer(5, 2)) == KOY_DONE);
-    CHECK(koy_head_end_phase(&head_end) == KOY_HEAD_END_CLOSED && koy_cabinet_phase(&cabinet) == KOY_CABINET_BLANK);
+    made_by(one);
 }
 
 /* the cabinet has answered the opening, and the order stands in buf */
@@ -368,6 +373,31 @@ static void given_up(void)
     opened(order, 1);
     said = koy_head_end_restart(&head_end);
     CHECK(said.code == KOY_UNKNOWN && said.tries == 1);
+}
+
+/* on a dead line: the telegrams written until the pending order ends with this code, the one before among them */
+static unsigned written_until(uint8_t code)
+{
+    unsigned written = 1;
+    koy_head_end_told said = koy_head_end_silence(&head_end, 104, buf, sizeof buf);
+    while (said.code == KOY_SENT && written < 9) {
+        written++;
+        said = koy_head_end_silence(&head_end, 104, buf, sizeof buf);
+    }
+    CHECK(said.code == code && said.tries == written);
+    return written;
+}
+
+/* no number of tries is stated: four in either phase */
+static void no_tries_stated(void)
+{
+    const uint8_t order[] = {1};
+    made_by(koy_settings_own_peer(2, 5));
+    CHECK(koy_head_end_submit(&head_end, 101, order, 1, buf, sizeof buf).code == KOY_SENT);
+    CHECK(written_until(KOY_NOT_SENT) == 4);
+    made_by(koy_settings_own_peer(2, 5));
+    opened(order, 1);
+    CHECK(written_until(KOY_UNKNOWN) == 4);
 }
 
 /* a phase above the named ones counts as 0, and the plain calls can be named too */
@@ -520,6 +550,7 @@ int main(void)
     an_order();
     next_order();
     given_up();
+    no_tries_stated();
     plain_ends();
     null_bus();
     null_bus_plain();

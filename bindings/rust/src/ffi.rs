@@ -17,6 +17,7 @@ pub const KOY_UNKNOWN: u8 = 105;
 pub const KOY_HANDED_UP: u8 = 106;
 pub const KOY_ABSENT: usize = 256;
 pub const KOY_LONGEST_TELEGRAM: usize = 261;
+pub const KOY_DEFAULT_TRIES: u8 = 4;
 pub const KOY_STATIONS_SIZE: usize = 132;
 pub const KOY_INITIATOR_SIZE: usize = 252;
 pub const KOY_RESPONDER_SIZE: usize = 250;

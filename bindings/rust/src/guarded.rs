@@ -90,6 +90,11 @@ impl GuardedInitiator {
         Ok(GuardedInitiator { state, last })
     }
 
+    /// The same with no number of tries stated: [`DEFAULT_TRIES`](crate::DEFAULT_TRIES). Refusal 18.
+    pub fn with_default_tries(own: Address, peer: Address, now: usize) -> Result<GuardedInitiator, Refusal> {
+        GuardedInitiator::new(own, peer, crate::DEFAULT_TRIES, now)
+    }
+
     /// An order of 1 to 246 bytes. Gives [`InitiatorAnswer::Sent`]. Refusals 10, 17, 16, in this order.
     pub fn submit<'buf>(
         &mut self,

@@ -12,8 +12,8 @@ mod tests;
 pub const ROOM: usize = 255;
 /// The longest order, and the longest reply.
 pub const LONGEST_ORDER: usize = 246;
-/// The tries of a link for which no others are stated.
-pub const DEFAULT_TRIES: u8 = 2;
+/// The tries of a link for which no others are stated, in each phase of an order.
+pub const DEFAULT_TRIES: u8 = ffi::KOY_DEFAULT_TRIES;
 
 /// The head end: it submits orders and reports what became of them. A driver that takes this one, and not
 /// [`GuardedInitiator`](crate::GuardedInitiator), sees to it that a telegram is heard before the next call of either end, or never.
@@ -115,6 +115,11 @@ impl Initiator {
         let mut state = [0; ffi::KOY_INITIATOR_SIZE];
         done(unsafe { ffi::koy_initiator_new(&mut state, own.0, peer.0, tries) })?;
         Ok(Initiator { state })
+    }
+
+    /// The same with no number of tries stated: [`DEFAULT_TRIES`]. Refusal 18.
+    pub fn with_default_tries(own: Address, peer: Address) -> Result<Initiator, Refusal> {
+        Initiator::new(own, peer, DEFAULT_TRIES)
     }
 
     /// An order of 1 to 246 bytes. Refusals 10, 17, 16, in this order.

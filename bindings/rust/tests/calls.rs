@@ -267,6 +267,36 @@ fn link_refusals_leave_all() {
     assert_eq!(Responder::new(Address(126), head_end), Err(Refusal::LinkAddresses));
 }
 
+fn sent(answer: Result<InitiatorAnswer, Refusal>) -> bool {
+    matches!(answer, Ok(InitiatorAnswer::Sent(_)))
+}
+
+/// A link made without a number of tries writes four telegrams in either phase, with a guard and without.
+#[test]
+fn four_tries_where_none_are_stated() {
+    let (head_end, cabinet) = (Address(2), Address(5));
+    let opened = [0x10, 0x02, 0x05, 0x00, 0x07, 0x16];
+    let mut buf = [0; ROOM];
+    let mut plain = Initiator::with_default_tries(head_end, cabinet).unwrap();
+    let mut guarded = GuardedInitiator::with_default_tries(head_end, cabinet, 0).unwrap();
+    assert!(sent(plain.submit(&[1], &mut buf)) && sent(guarded.submit(1, &[1], &mut buf)));
+    for _ in 0..3 {
+        assert!(sent(plain.silence(&mut buf)) && sent(guarded.silence(2, &mut buf)));
+    }
+    assert_eq!(plain.silence(&mut buf), Ok(InitiatorAnswer::NotSent { tries: 4 }));
+    assert_eq!(guarded.silence(3, &mut buf), Ok(InitiatorAnswer::NotSent { tries: 4 }));
+    assert!(sent(plain.submit(&[1], &mut buf)) && sent(guarded.submit(4, &[1], &mut buf)));
+    assert!(sent(plain.hear(&opened, &mut buf)));
+    assert!(sent(guarded.hear(Received { at: 5, bytes: &opened }, 6, &mut buf)));
+    for _ in 0..3 {
+        assert!(sent(plain.silence(&mut buf)) && sent(guarded.silence(7, &mut buf)));
+    }
+    assert_eq!(plain.silence(&mut buf), Ok(InitiatorAnswer::Unknown { tries: 4 }));
+    assert_eq!(guarded.silence(8, &mut buf), Ok(InitiatorAnswer::Unknown { tries: 4 }));
+    assert_eq!(Initiator::with_default_tries(head_end, head_end), Err(Refusal::LinkAddresses));
+    assert_eq!(GuardedInitiator::with_default_tries(head_end, head_end, 0), Err(Refusal::LinkAddresses));
+}
+
 /// Each refusal has its number and words of its own.
 #[test]
 fn refusals_in_words() {

@@ -3,6 +3,8 @@
 pub mod CallLaws
 -- the pending order in its array
 pub mod OrderLaws
+-- a call on a record with another number of tries
+pub mod TriesLaws
 -- a call on a head and a lent order
 pub mod HeadLaws
 -- the maker, case by case

@@ -16,12 +16,13 @@ room = 255
 abbrev pub longest : ℕ
 longest = 246
 
--- "tries outside 1 to 8", "default 2"
+-- "tries outside 1 to 8"
 abbrev pub mostTries : ℕ
 mostTries = 8
 
+-- document 02, 2026-04: "A link made without a stated number takes 4"
 abbrev pub defaultTries : ℕ
-defaultTries = 2
+defaultTries = 4
 
 -- 18: "link addresses above 125 or equal"
 unfoldable pub wrongAddresses : Link → Bool

@@ -15,7 +15,7 @@ pub const LONGEST: usize = 246;
 pub const MOST_TRIES: u8 = 8;
 
 // A link made without a stated number of tries takes this many.
-pub const DEFAULT_TRIES: u8 = 2;
+pub const DEFAULT_TRIES: u8 = 4;
 
 // Whether refusal 18 is due.
 pub fn wrong_addresses(link: Link) -> bool

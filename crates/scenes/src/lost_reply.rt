@@ -1,6 +1,11 @@
 // A first reply that is lost: the head end sends the order once more, and the cabinet, which has carried it out, repeats the held reply.
 //
-// Relies on a default of two tries or more.
+// One telegram is lost, so that two tries are enough: every default from two on gives these telegrams.
+ghost use mathlib.Core.Path.{_≡_};
+ghost use Rattle.link_rules.specs.Rules.{defaultTries};
+ghost use Rattle.scenes.specs.Scenes.{lostReply};
+ghost use Rattle.stage.specs.Rows.{played};
+use stage::Stage;
 use stage::scenes::cabinet_answers;
 use stage::scenes::cabinet_hears;
 use stage::scenes::close_scene;
@@ -11,7 +16,9 @@ use stage::scenes::line_loses;
 use stage::scenes::open_scene;
 use stage::scenes::opening_passes;
 
-pub(crate) fn play() {
+fn steps() -> Stage
+    ensures { λ r. ⌜ r ≡ played defaultTries lostReply ⌝ }
+{
     let mut stage = open_scene(
         b"lost_reply",
         b"the first reply is lost, and the order sent again is not carried out again",
@@ -24,5 +31,9 @@ pub(crate) fn play() {
     stage = head_end_hears_nothing(stage);
     stage = cabinet_hears(stage);
     stage = head_end_hears(stage);
-    close_scene(b"lost_reply", stage);
+    stage
+}
+
+pub(crate) fn play() {
+    close_scene(b"lost_reply", steps());
 }

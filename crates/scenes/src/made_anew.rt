@@ -2,6 +2,11 @@
 // order, which stays pending and is carried out once. The cabinet's, with the next opening in flight: it hears the opening all the same.
 //
 // Nothing is lost here, so that one try is enough: every default number of tries gives these telegrams.
+ghost use mathlib.Core.Path.{_≡_};
+ghost use Rattle.link_rules.specs.Rules.{defaultTries};
+ghost use Rattle.scenes.specs.Scenes.{madeAnew};
+ghost use Rattle.stage.specs.Rows.{played};
+use stage::Stage;
 use stage::scenes::cabinet_answers;
 use stage::scenes::cabinet_hears;
 use stage::scenes::cabinet_made_anew;
@@ -13,7 +18,9 @@ use stage::scenes::open_scene;
 use stage::scenes::opening_passes;
 use stage::scenes::order_passes;
 
-pub(crate) fn play() {
+fn steps() -> Stage
+    ensures { λ r. ⌜ r ≡ played defaultTries madeAnew ⌝ }
+{
     let mut stage = open_scene(
         b"made_anew",
         b"each end's record is made anew while a telegram is in flight: the first order is carried out once and never reported",
@@ -28,5 +35,9 @@ pub(crate) fn play() {
     stage = cabinet_made_anew(stage);
     stage = opening_passes(stage);
     stage = order_passes(stage, b"opened-18");
-    close_scene(b"made_anew", stage);
+    stage
+}
+
+pub(crate) fn play() {
+    close_scene(b"made_anew", steps());
 }

@@ -2,6 +2,11 @@
 // it out once and answers. The late reply is no second outcome, and the next order shows its own.
 //
 // The restart comes at the first try, so that every default number of tries gives these telegrams.
+ghost use mathlib.Core.Path.{_≡_};
+ghost use Rattle.link_rules.specs.Rules.{defaultTries};
+ghost use Rattle.scenes.specs.Scenes.{restartInOrder};
+ghost use Rattle.stage.specs.Rows.{played};
+use stage::Stage;
 use stage::scenes::cabinet_answers;
 use stage::scenes::cabinet_hears;
 use stage::scenes::close_scene;
@@ -12,7 +17,9 @@ use stage::scenes::open_scene;
 use stage::scenes::opening_passes;
 use stage::scenes::order_passes;
 
-pub(crate) fn play() {
+fn steps() -> Stage
+    ensures { λ r. ⌜ r ≡ played defaultTries restartInOrder ⌝ }
+{
     let mut stage = open_scene(
         b"restart_in_order",
         b"the head end restarts while its order is in flight: it reports unknown, and the order is carried out once, afterwards",
@@ -26,5 +33,9 @@ pub(crate) fn play() {
     stage = head_end_submits(stage, b"open-18");
     stage = opening_passes(stage);
     stage = order_passes(stage, b"opened-18");
-    close_scene(b"restart_in_order", stage);
+    stage
+}
+
+pub(crate) fn play() {
+    close_scene(b"restart_in_order", steps());
 }

@@ -6,7 +6,11 @@
 // The link keeps its word here: each order was carried out at most once, and what is shown is the answer given after the order was handed
 // up. An answer does not say which order it is for, so that no end can tell. With the guarded ends it does: `slow_cabinet_by_number`.
 //
-// Has one try, so that the first silence of the order's phase is its end.
+// States one try: the first silence of the order's phase is its end.
+ghost use mathlib.Core.Path.{_≡_};
+ghost use Rattle.scenes.specs.Scenes.{slowCabinet};
+ghost use Rattle.stage.specs.Rows.{played};
+use stage::Stage;
 use stage::scenes::cabinet_answers;
 use stage::scenes::cabinet_hears;
 use stage::scenes::close_scene;
@@ -16,7 +20,9 @@ use stage::scenes::head_end_submits;
 use stage::scenes::open_scene_with_tries;
 use stage::scenes::opening_passes;
 
-pub(crate) fn play() {
+fn steps() -> Stage
+    ensures { λ r. ⌜ r ≡ played 1 slowCabinet ⌝ }
+{
     let mut stage = open_scene_with_tries(
         b"slow_cabinet",
         b"the application answers the first order when the second is handed up; document 01 allows it: the second is confirmed with the first one's reply",
@@ -31,5 +37,9 @@ pub(crate) fn play() {
     stage = cabinet_hears(stage);
     stage = cabinet_answers(stage, b"opened-17");
     stage = head_end_hears(stage);
-    close_scene(b"slow_cabinet", stage);
+    stage
+}
+
+pub(crate) fn play() {
+    close_scene(b"slow_cabinet", steps());
 }

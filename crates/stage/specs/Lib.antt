@@ -3,3 +3,5 @@
 pub mod Stages
 -- rows of steps in which nothing is lost
 pub mod Exchanges
+-- a scene as a row of steps, and its telegrams
+pub mod Rows

@@ -2,7 +2,7 @@
 use crate::cabinet::ANSWER;
 use crate::line::{duration, Line, Station, BYTE, PORTION};
 use crate::receiver::Receiver;
-use koyandefa::{Address, GuardedInitiator, InitiatorAnswer, Received, Refusal, ROOM};
+use koyandefa::{GuardedInitiator, InitiatorAnswer, Received, Refusal, Settings, ROOM};
 
 /// How long the line must be idle before silence is reported: longer than the cabinet takes until the first portion of its answer is here.
 const SLOT: usize = ANSWER + BYTE * PORTION + 200;
@@ -23,8 +23,8 @@ pub struct HeadEnd {
 }
 
 impl HeadEnd {
-    pub fn new(own: Address, peer: Address, now: usize) -> Result<HeadEnd, Refusal> {
-        let link = GuardedInitiator::new(own, peer, koyandefa::DEFAULT_TRIES, now)?;
+    pub fn new(settings: Settings, now: usize) -> Result<HeadEnd, Refusal> {
+        let link = GuardedInitiator::new(settings.own, settings.peer, settings.tries, now)?;
         Ok(HeadEnd { link, receiver: Receiver::default(), timer: None })
     }
 

@@ -34,7 +34,7 @@ impl Plant {
         Ok(Plant {
             now: 0,
             line: Line::new(seed),
-            head_end: HeadEnd::new(settings.own, settings.peer, 0)?,
+            head_end: HeadEnd::new(settings, 0)?,
             cabinet: Cabinet::new(settings.peer, settings.own, 0)?,
             orders: 0,
             confirmed: Vec::new(),

@@ -14,7 +14,7 @@
  * every content of the bytes that it is lent as document 01 says, the guarded ones as is said below.
  *
  * Stack that a call takes, in bytes: the station list 480 at most, the guarded link 184, the plain link 168, settings 136, reading
- * and writing 64, diagnostics 0 (docs/SPEED.md has every call). A named form takes up to 112 more, by gcc 12.2 with -O2.
+ * 88, writing 40, diagnostics 0 (docs/SPEED.md has every call). A named form takes up to 112 more, by gcc 12.2 with -O2.
  *
  * Threads: any call from any number of threads at once, but a state that a call writes is lent to one call at a time: one lock for
  * each record, or one thread.

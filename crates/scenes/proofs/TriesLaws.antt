@@ -46,7 +46,7 @@ lengthAfter at l = length (getD l at [])
 
 -- ---- computed
 
-pub record Computed : Type 0 where
+record Computed : Type 0 where
   pub begins : freshWith 2 ≡ freshBefore
   pub cabinetRestart : telegrams 2 scene.cabinetRestart ≡ cabinetRestartBefore
   pub deadLine : telegrams 2 scene.deadLine ≡ deadLineBefore
@@ -102,23 +102,31 @@ module _ (n : ℕ) (p : Permitted n) where
   slow-cabinet-more h =
       ap (lengthAfter 4) (same-telegrams (take 5 scene.slowCabinet) n 2 h (omega arith) (p .to-most) (omega arith)) ∙ computed .slowCabinet2
 
--- with one try in place of two the telegram is missing at which one more was written
 one-try : {n : ℕ} → 1 ≤ n → n < 2 → n ≡ 1
 one-try h k = omega (arith, h, k)
 
+-- two lengths that differ
 apart : {x y : ℕ} (a b : ℕ) → x ≡ a → y ≡ b → (a ≡ b → ⊥) → x ≡ y → ⊥
 apart a b e f differ g = differ (sym e ∙ g ∙ f)
 
 cabinet-restart : CountsOn 2 scene.cabinetRestart
 cabinet-restart =
     counts-on 5 7
-    (λ n h k. apart 0 16 (ap (λ t. lengthAfter 5 (telegrams t scene.cabinetRestart)) (one-try h k) ∙ computed .cabinetRestart1) (ap (lengthAfter 5) (computed .cabinetRestart)) (λ e. omega (arith, e)))
+    (λ n h k.
+    apart 0 16
+    (ap (λ t. lengthAfter 5 (telegrams t scene.cabinetRestart)) (one-try h k) ∙ computed .cabinetRestart1)
+    (ap (lengthAfter 5) (computed .cabinetRestart))
+    (λ e. omega (arith, e)))
     (λ n h p. apart 16 0 (cabinet-restart-more n p h) (ap (lengthAfter 7) (computed .cabinetRestart)) (λ e. omega (arith, e)))
 
 dead-line : CountsOn 2 scene.deadLine
 dead-line =
     counts-on 2 4
-    (λ n h k. apart 0 6 (ap (λ t. lengthAfter 2 (telegrams t scene.deadLine)) (one-try h k) ∙ computed .deadLine1) (ap (lengthAfter 2) (computed .deadLine)) (λ e. omega (arith, e)))
+    (λ n h k.
+    apart 0 6
+    (ap (λ t. lengthAfter 2 (telegrams t scene.deadLine)) (one-try h k) ∙ computed .deadLine1)
+    (ap (lengthAfter 2) (computed .deadLine))
+    (λ e. omega (arith, e)))
     (λ n h p. apart 6 0 (dead-line-more n p h) (ap (lengthAfter 4) (computed .deadLine)) (λ e. omega (arith, e)))
 
 slow-cabinet : CountsOn 1 scene.slowCabinet

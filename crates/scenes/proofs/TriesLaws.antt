@@ -129,24 +129,21 @@ dead-line =
     (λ e. omega (arith, e)))
     (λ n h p. apart 6 0 (dead-line-more n p h) (ap (lengthAfter 4) (computed .deadLine)) (λ e. omega (arith, e)))
 
-slow-cabinet : CountsOn 1 scene.slowCabinet
-slow-cabinet =
-    counts-on 0 4
-    (λ n h k e. omega (arith, h, k))
-    (λ n h p. apart 16 0 (slow-cabinet-more n p h) (computed .slowCabinet1) (λ e. omega (arith, e)))
-
 pub tries : Tries
 tries =
     record {
-      accident = same-from 1 scene.accident (omega arith);
-      lostReply = same-from 2 scene.lostReply (omega arith);
-      fiveOrders = same-from 1 scene.fiveOrders (omega arith);
-      restartInOpening = same-from 1 scene.restartInOpening (omega arith);
-      restartInOrder = same-from 1 scene.restartInOrder (omega arith);
-      madeAnew = same-from 1 scene.madeAnew (omega arith);
+      accident = same-from _ scene.accident (omega arith);
+      lostReply = same-from _ scene.lostReply (omega arith);
+      fiveOrders = same-from _ scene.fiveOrders (omega arith);
+      restartInOpening = same-from _ scene.restartInOpening (omega arith);
+      restartInOrder = same-from _ scene.restartInOrder (omega arith);
+      madeAnew = same-from _ scene.madeAnew (omega arith);
       cabinetRestart = cabinet-restart;
       deadLine = dead-line;
-      slowCabinet = slow-cabinet;
+      slowCabinet =
+          counts-on 0 4
+          (λ n h k e. omega (arith, h, k))
+          (λ n h p. apart 16 0 (slow-cabinet-more n p h) (computed .slowCabinet1) (λ e. omega (arith, e)));
       begins = computed .begins;
       cabinetRestartStays = computed .cabinetRestart;
       deadLineStays = computed .deadLine;

@@ -1,6 +1,6 @@
 /* Koyandefa: telegrams, the station list, diagnostics and the order link of PROFIBUS, as proved functions.
  *
- * This file has the numbers and the 34 calls as the archives export them. koyandefa_named.h, which it includes at its end, has what
+ * This file has the numbers and the 35 calls as the archives export them. koyandefa_named.h, which it includes at its end, has what
  * a driver calls: the same calls with named answers (koy_telegram_read gives kind, length, sa, da ... where koy_read fills an array
  * of nine), with names for addresses, SAPs and stamps, which the plain calls take as bare numbers and da and sa in both orders, and
  * with the text of every code. Read this head and the numbers, then that file; of the calls here, the notes on the order link.
@@ -11,7 +11,7 @@
  *
  * Machine: x86-64 alone, as the archives are; C99, C11, or C++ from C++17 on. The calls allocate nothing, keep no state of their
  * own, call nothing but memcpy and memset, and return from every call. Each is proved to answer every number, every length and
- * every content of the bytes that it is lent as document 01 says, the guarded ones as is said below.
+ * every content of the bytes that it is lent as document 01 says, the guarded ones and strict reading as is said below.
  *
  * Stack that a call takes, in bytes: the station list 480 at most, the guarded link 184, the plain link 168, settings 136, reading
  * 88, writing 40, diagnostics 0 (docs/SPEED.md has every call). A named form takes up to 112 more, by gcc 12.2 with -O2.
@@ -22,8 +22,9 @@
  * What the caller owes, as with memcpy: a pointer and a length name bytes that are there; WHERE THE LENGTH IS 0 THE POINTER MAY BE
  * NULL; an array has as many elements as its type says; what a call is lent to write to overlaps nothing else that it is lent.
  *
- * Codes. A call that may refuse returns 0 for done or the number of document 01's refusal (1 to 22), and some calls one of
- * the codes from 100 on. A REFUSED CALL LEAVES ALL THAT IT WAS LENT AS IT CAME; only a refused walk moves its cursor.
+ * Codes. A call that may refuse returns 0 for done or the number of the refusal: 1 to 22 are document 01's, 24 and 25 those of strict
+ * reading; and some calls one of the codes from 100 on. A REFUSED CALL LEAVES ALL THAT IT WAS LENT AS IT CAME; only a refused walk
+ * moves its cursor.
  *
  * State is lent as bytes of a stated size and belongs to the caller. The layout is given below and every content is answered. The
  * station list may be copied, stored and sent. A LINK'S RECORD IS NEVER COPIED BACK OR LOADED: see "the order link".
@@ -47,9 +48,9 @@
 
 /* the version of this header and of the archives that it goes with */
 #define KOY_VERSION_MAJOR 0
-#define KOY_VERSION_MINOR 3
+#define KOY_VERSION_MINOR 4
 #define KOY_VERSION_PATCH 0
-#define KOY_VERSION "0.3.0"
+#define KOY_VERSION "0.4.0"
 
 #ifdef __cplusplus
 extern "C" {
@@ -83,6 +84,9 @@ extern "C" {
 #define KOY_SETTINGS_FORM 20
 #define KOY_NO_REPLY_OWED 21
 #define KOY_INPUT_TOO_LONG 22
+/* refusals of later requests (there is no 23), given in strict reading alone */
+#define KOY_LENGTH_NOT_STANDARD 24
+#define KOY_FOURTH_BYTE 25
 /* answers that are no refusals */
 #define KOY_INCOMPLETE 100 /* reading: too few bytes to tell */
 #define KOY_AT_END 101     /* the walk: no more blocks */
@@ -214,6 +218,14 @@ extern "C" {
  * The function code is the one that would be written: a response's bit 7 is clear.
  * 1 to 7: refused; KOY_INCOMPLETE: more bytes are needed. told stays. */
 uint8_t koy_read(const uint8_t *bytes, size_t bytes_len, size_t told[9]);
+
+/* The same in strict mode, to hunt couplers that send sloppy SD2 telegrams. Drivers keep koy_read, as the order link does: what a
+ * sloppy coupler sends is still a telegram. Of an SD2 telegram, behind 2 and 3 and before its total length is looked at, in this order:
+ *   24: the length byte is 3 or above 249
+ *   25: the fourth byte is not 68
+ * All else is answered as by koy_read: what is read here, koy_read reads alike, and fewer than 6 bytes of an SD2 telegram are
+ * KOY_INCOMPLETE. Where a call is refused or incomplete, told stays. */
+uint8_t koy_read_strict(const uint8_t *bytes, size_t bytes_len, size_t told[9]);
 
 /* Writes a data telegram to the front of buf. A dsap or ssap of 256 and above is absent. 0: told is
  *   [0] the bytes written   [1] the station that is to reply, or KOY_ABSENT

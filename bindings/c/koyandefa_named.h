@@ -2,7 +2,7 @@
  *
  * Each function here makes one call of koyandefa.h and names what that told, and nothing else is done here:
  *
- *   telegrams     koy_telegram_read, koy_telegram_write, koy_token_write, koy_confirmation_write
+ *   telegrams     koy_telegram_read, koy_telegram_read_strict, koy_telegram_write, koy_token_write, koy_confirmation_write
  *   station list  koy_stations_witness_pass, koy_stations_report; the other calls of the list take list.state and have no second form
  *   diagnostics   koy_walk_over, koy_walk_next, koy_block_has_module, koy_store_fill
  *   settings      koy_settings_own_peer, koy_settings_from_text, koy_settings_to_text
@@ -87,6 +87,8 @@ static inline const char *koy_code_text(size_t code)
     case KOY_SETTINGS_FORM: return "the settings text has another form";
     case KOY_NO_REPLY_OWED: return "an answer is given where none is owed, or for another order";
     case KOY_INPUT_TOO_LONG: return "the lister's input is above 4,096 bytes";
+    case KOY_LENGTH_NOT_STANDARD: return "the length byte of an SD2 telegram is 3 or above 249, in strict mode";
+    case KOY_FOURTH_BYTE: return "the fourth byte of an SD2 telegram is not 68, in strict mode";
     case KOY_INCOMPLETE: return "incomplete: too few bytes to tell";
     case KOY_AT_END: return "no more blocks";
     case KOY_SENT: return "a telegram to send";
@@ -112,8 +114,8 @@ static inline koy_pass koy_from_to(uint8_t sa, uint8_t da)
     return pass;
 }
 
-/* code: KOY_DONE; KOY_INCOMPLETE, more bytes are needed; 1 to 7, refused. A short confirmation has no address, a token no SAP and no
- * function code: KOY_ABSENT, which no byte equals. */
+/* code: KOY_DONE; KOY_INCOMPLETE, more bytes are needed; 1 to 7, in strict mode also 24 and 25, refused. A short confirmation has no
+ * address, a token no SAP and no function code: KOY_ABSENT, which no byte equals. */
 typedef struct {
     uint8_t code;
     uint8_t kind; /* KOY_SHORT_CONFIRMATION, KOY_TOKEN, KOY_DATA; 0 where none was read */
@@ -126,12 +128,12 @@ typedef struct {
     koy_part pdu;
 } koy_telegram;
 
-/* The telegram that the bytes begin with. */
-static inline koy_telegram koy_telegram_read(const uint8_t *bytes, size_t bytes_len)
+/* Names what koy_read or koy_read_strict told; of a refused call told is not looked at. */
+static inline koy_telegram koy_telegram_named(uint8_t code, const size_t told[9], const uint8_t *bytes)
 {
-    size_t told[9] = {0, 0, KOY_ABSENT, KOY_ABSENT, KOY_ABSENT, KOY_ABSENT, KOY_ABSENT, 0, 0};
-    koy_telegram telegram;
-    telegram.code = koy_read(koy_lent(bytes), bytes_len, told);
+    koy_telegram telegram = {code, 0, 0, KOY_ABSENT, KOY_ABSENT, KOY_ABSENT, KOY_ABSENT, KOY_ABSENT, {bytes, 0, 0}};
+    if (code != KOY_DONE)
+        return telegram;
     telegram.kind = (uint8_t)told[0];
     telegram.length = told[1];
     telegram.da = told[2];
@@ -141,6 +143,22 @@ static inline koy_telegram koy_telegram_read(const uint8_t *bytes, size_t bytes_
     telegram.fc = told[6];
     telegram.pdu = koy_part_of(bytes, told[7], told[8]);
     return telegram;
+}
+
+/* The telegram that the bytes begin with. */
+static inline koy_telegram koy_telegram_read(const uint8_t *bytes, size_t bytes_len)
+{
+    size_t told[9] = {0, 0, 0, 0, 0, 0, 0, 0, 0};
+    uint8_t code = koy_read(koy_lent(bytes), bytes_len, told);
+    return koy_telegram_named(code, told, bytes);
+}
+
+/* The same in strict mode, for who hunts couplers that send sloppy SD2 telegrams; a driver keeps koy_telegram_read. */
+static inline koy_telegram koy_telegram_read_strict(const uint8_t *bytes, size_t bytes_len)
+{
+    size_t told[9] = {0, 0, 0, 0, 0, 0, 0, 0, 0};
+    uint8_t code = koy_read_strict(koy_lent(bytes), bytes_len, told);
+    return koy_telegram_named(code, told, bytes);
 }
 
 /* From whom to whom a token or a data telegram goes; of no other telegram. */

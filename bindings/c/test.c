@@ -29,14 +29,29 @@ static uint8_t random_byte(void)
 
 /* ---- telegrams ---- */
 
+static int names(koy_telegram t, uint8_t code, const size_t told[9], const uint8_t *bytes)
+{
+    return t.code == code && t.kind == told[0] && t.length == told[1] && t.da == told[2] && t.sa == told[3] &&
+           t.dsap == told[4] && t.ssap == told[5] && t.fc == told[6] && t.pdu.start == told[7] && t.pdu.length == told[8] &&
+           t.pdu.bytes == bytes + told[7];
+}
+
 static int same_as_plain(const uint8_t *bytes, size_t length)
 {
     size_t told[9] = {0, 0, KOY_ABSENT, KOY_ABSENT, KOY_ABSENT, KOY_ABSENT, KOY_ABSENT, 0, 0};
     uint8_t code = koy_read(bytes, length, told);
-    koy_telegram t = koy_telegram_read(bytes, length);
-    return t.code == code && t.kind == told[0] && t.length == told[1] && t.da == told[2] && t.sa == told[3] &&
-           t.dsap == told[4] && t.ssap == told[5] && t.fc == told[6] && t.pdu.start == told[7] && t.pdu.length == told[8] &&
-           t.pdu.bytes == bytes + told[7];
+    return names(koy_telegram_read(bytes, length), code, told, bytes);
+}
+
+/* gives an SD2 telegram the checksum and the end that its length byte wants; its length */
+static size_t closed(uint8_t *bytes)
+{
+    size_t end = (size_t)bytes[1] + 4;
+    bytes[end] = 0;
+    for (size_t i = 4; i < end; i++)
+        bytes[end] = (uint8_t)(bytes[end] + bytes[i]);
+    bytes[end + 1] = 0x16;
+    return end + 2;
 }
 
 /* random bytes, mostly with a delimiter and lengths that fit, and now and then a right checksum and end */
@@ -51,14 +66,8 @@ static void reading_random_bytes(void)
             bytes[i] = random_byte();
         bytes[0] = starts[random_byte() % 6];
         bytes[1] = bytes[2] = (uint8_t)(3 + random_byte() % 12);
-        if (random_byte() < 128 && bytes[0] == 0x68) {
-            size_t end = (size_t)bytes[1] + 4;
-            bytes[end] = 0;
-            for (size_t i = 4; i < end; i++)
-                bytes[end] = (uint8_t)(bytes[end] + bytes[i]);
-            bytes[end + 1] = 0x16;
-            length = end + 2;
-        }
+        if (random_byte() < 128 && bytes[0] == 0x68)
+            length = closed(bytes);
         CHECK(same_as_plain(bytes, length));
         read += koy_telegram_read(bytes, length).kind == KOY_DATA;
     }
@@ -97,6 +106,140 @@ static void longest_announced(void)
     CHECK(koy_telegram_read(noise, KOY_LONGEST_TELEGRAM - 1).code == KOY_INCOMPLETE);
     CHECK(koy_is_refusal(koy_telegram_read(noise, KOY_LONGEST_TELEGRAM).code));
 }
+
+/* ---- strict reading ---- */
+
+/* What strict mode refuses before the default reader comes to its word, or KOY_DONE: an oracle that calls nothing of the library. */
+static uint8_t strict_gate(const uint8_t *bytes, size_t length)
+{
+    if (length < 6 || bytes[0] != 0x68 || bytes[1] != bytes[2] || bytes[1] < 3)
+        return KOY_DONE;
+    if (bytes[1] == 3 || bytes[1] > 249)
+        return KOY_LENGTH_NOT_STANDARD;
+    return bytes[3] == 0x68 ? KOY_DONE : KOY_FOURTH_BYTE;
+}
+
+/* the strict call answers and tells as the gate, and behind it koy_read; told stays as it came where either refuses */
+static int gate_then_plain(const uint8_t *bytes, size_t length)
+{
+    size_t expected[9], told[9];
+    for (size_t i = 0; i < 9; i++)
+        expected[i] = told[i] = 1000 + i;
+    uint8_t code = strict_gate(bytes, length);
+    if (code == KOY_DONE)
+        code = koy_read(bytes, length, expected);
+    return koy_read_strict(bytes, length, told) == code && memcmp(told, expected, sizeof told) == 0;
+}
+
+/* whatever the oracle says: but for 24 and 25 the two calls answer alike, and its named form tells what the strict call tells */
+static int strict_or_alike(const uint8_t *bytes, size_t length)
+{
+    size_t plain[9] = {0, 0, KOY_ABSENT, KOY_ABSENT, KOY_ABSENT, KOY_ABSENT, KOY_ABSENT, 0, 0}, told[9];
+    memcpy(told, plain, sizeof told);
+    uint8_t code = koy_read_strict(bytes, length, told);
+    if (!names(koy_telegram_read_strict(bytes, length), code, told, bytes))
+        return 0;
+    if (code == KOY_LENGTH_NOT_STANDARD || code == KOY_FOURTH_BYTE)
+        return 1;
+    return koy_read(bytes, length, plain) == code && memcmp(told, plain, sizeof told) == 0;
+}
+
+/* Random bytes, mostly of an SD2 telegram with a length byte near a limit; many are whole, with a right checksum and end. */
+static size_t random_sd2(uint8_t bytes[KOY_LONGEST_TELEGRAM])
+{
+    const uint8_t starts[4] = {0x10, 0xA2, 0xDC, 0xE5}, lengths[8] = {2, 3, 4, 5, 11, 249, 250, 255};
+    for (size_t i = 0; i < KOY_LONGEST_TELEGRAM; i++)
+        bytes[i] = random_byte();
+    bytes[0] = random_byte() < 240 ? 0x68 : starts[random_byte() % 4];
+    bytes[1] = random_byte() < 200 ? lengths[random_byte() % 8] : random_byte();
+    bytes[2] = random_byte() < 240 ? bytes[1] : random_byte();
+    bytes[3] = random_byte() < 160 ? 0x68 : random_byte();
+    if (random_byte() < 160)
+        return closed(bytes);
+    return random_byte() < 100 ? random_byte() % 10 : 6 + random_byte();
+}
+
+/* Each answer that strict mode has is met often, and so are telegrams that it refuses and koy_read reads. */
+static void strict_random_bytes(void)
+{
+    uint8_t bytes[KOY_LONGEST_TELEGRAM];
+    unsigned met[256] = {0}, sloppy[256] = {0};
+    for (int round = 0; round < 20000; round++) {
+        size_t length = random_sd2(bytes);
+        CHECK(gate_then_plain(bytes, length));
+        CHECK(strict_or_alike(bytes, length));
+        uint8_t code = koy_telegram_read_strict(bytes, length).code;
+        met[code]++;
+        sloppy[code] += koy_telegram_read(bytes, length).code == KOY_DONE;
+    }
+    CHECK(met[KOY_DONE] > 500 && met[KOY_INCOMPLETE] > 500 && met[KOY_LENGTHS_DIFFER] > 500 && met[KOY_LENGTH_TOO_SMALL] > 500);
+    CHECK(met[KOY_FUNCTION_CODE] > 500 && met[KOY_LENGTH_NOT_STANDARD] > 500 && met[KOY_FOURTH_BYTE] > 500);
+    CHECK(sloppy[KOY_LENGTH_NOT_STANDARD] > 500 && sloppy[KOY_FOURTH_BYTE] > 500);
+}
+
+/* every length byte with every fourth byte, of fewer bytes than are judged, of just so many, and of as many as any telegram has */
+static void strict_starts(void)
+{
+    const size_t lengths[3] = {5, 6, KOY_LONGEST_TELEGRAM};
+    uint8_t bytes[KOY_LONGEST_TELEGRAM] = {0x68};
+    for (int start = 0; start < 0x10000; start++) {
+        bytes[1] = bytes[2] = (uint8_t)(start >> 8);
+        bytes[3] = (uint8_t)start;
+        for (size_t i = 0; i < 3; i++)
+            CHECK(gate_then_plain(bytes, lengths[i]));
+    }
+}
+
+/* some bytes, and what the two calls answer */
+static void strict_samples(void)
+{
+    const struct {
+        uint8_t bytes[10];
+        size_t length;
+        uint8_t plain, strict;
+    } samples[] = {
+        {{0x68, 0x03, 0x03, 0x00, 0x00, 0x00}, 6, KOY_INCOMPLETE, KOY_LENGTH_NOT_STANDARD},
+        {{0x68, 0x03, 0x03, 0x00, 0x00}, 5, KOY_INCOMPLETE, KOY_INCOMPLETE},
+        {{0x68, 0xFA, 0xFA, 0x68, 0x00, 0x00}, 6, KOY_INCOMPLETE, KOY_LENGTH_NOT_STANDARD},
+        {{0x68, 0xF9, 0xF9, 0x68, 0x00, 0x00}, 6, KOY_INCOMPLETE, KOY_INCOMPLETE},
+        {{0x68, 0x05, 0x05, 0x00, 0x00, 0x00}, 6, KOY_INCOMPLETE, KOY_FOURTH_BYTE},
+        {{0x68, 0x02, 0x03, 0x00, 0x00, 0x00}, 6, KOY_LENGTHS_DIFFER, KOY_LENGTHS_DIFFER},
+        {{0x68, 0xFE, 0xFF, 0x00, 0x00, 0x00}, 6, KOY_LENGTHS_DIFFER, KOY_LENGTHS_DIFFER},
+        {{0x68, 0x02, 0x02, 0x00, 0x00, 0x00}, 6, KOY_LENGTH_TOO_SMALL, KOY_LENGTH_TOO_SMALL},
+        {{0x68, 0x04, 0x04, 0x68, 0x00, 0x00, 0x00, 0x00, 0x00, 0x16}, 10, KOY_DONE, KOY_DONE},
+        {{0x68, 0x04, 0x04, 0x00, 0x00, 0x00, 0x00, 0x00, 0x00, 0x16}, 10, KOY_DONE, KOY_FOURTH_BYTE},
+        {{0x68, 0x04, 0x04, 0x00, 0x00, 0x00, 0x00, 0x00, 0x01, 0x16}, 10, KOY_CHECKSUM, KOY_FOURTH_BYTE},
+        {{0x68, 0x04, 0x04, 0x68, 0x00, 0x00, 0x00, 0x00, 0x01, 0x16}, 10, KOY_CHECKSUM, KOY_CHECKSUM},
+        {{0x68, 0x03, 0x03, 0x68, 0x00, 0x00, 0x00, 0x00, 0x16}, 9, KOY_DONE, KOY_LENGTH_NOT_STANDARD},
+        {{0x10, 0x05, 0x02, 0x49, 0x50, 0x16}, 6, KOY_DONE, KOY_DONE},
+        {{0xDC, 0x05, 0x02}, 3, KOY_DONE, KOY_DONE},
+        {{0xE5}, 1, KOY_DONE, KOY_DONE},
+        {{0xFF}, 1, KOY_UNKNOWN_START, KOY_UNKNOWN_START},
+    };
+    for (size_t i = 0; i < sizeof samples / sizeof samples[0]; i++) {
+        const uint8_t *bytes = samples[i].bytes;
+        CHECK(koy_telegram_read(bytes, samples[i].length).code == samples[i].plain);
+        CHECK(koy_telegram_read_strict(bytes, samples[i].length).code == samples[i].strict);
+        CHECK(gate_then_plain(bytes, samples[i].length) && strict_or_alike(bytes, samples[i].length));
+    }
+}
+
+/* whole telegrams of each length byte: 4 to 249 are standard, and 11 too, although we write 8 bytes of PDU as SD3 */
+static void strict_lengths(void)
+{
+    uint8_t bytes[KOY_LONGEST_TELEGRAM] = {0x68, 0, 0, 0x68, 0x05, 0x02, KOY_FC_SRD_LOW};
+    for (unsigned l = 3; l < 256; l++) {
+        bytes[1] = bytes[2] = (uint8_t)l;
+        size_t length = closed(bytes);
+        koy_telegram plain = koy_telegram_read(bytes, length), strict = koy_telegram_read_strict(bytes, length);
+        CHECK(plain.code == KOY_DONE && plain.length == l + 6 && plain.pdu.length == l - 3);
+        CHECK(strict.code == (l >= 4 && l <= 249 ? KOY_DONE : KOY_LENGTH_NOT_STANDARD));
+        CHECK(strict.kind == (strict.code == KOY_DONE ? KOY_DATA : 0) && strict.sa == (strict.code == KOY_DONE ? 2 : KOY_ABSENT));
+        memset(bytes + 7, 0, sizeof bytes - 7);
+    }
+}
+
+/* ---- writing ---- */
 
 static void writing(void)
 {
@@ -425,6 +568,7 @@ static void null_bus(void)
     koy_block block = koy_walk_next(&walk);
     CHECK(block.code == KOY_AT_END && !koy_block_has_module(block, 0) && !koy_store_fill(&store, NULL, 0));
     CHECK(koy_telegram_read(NULL, 0).code == KOY_INCOMPLETE && koy_telegram_read(NULL, 0).pdu.bytes == NULL);
+    CHECK(koy_telegram_read_strict(NULL, 0).code == KOY_INCOMPLETE && koy_telegram_read_strict(NULL, 0).pdu.bytes == NULL);
     CHECK(koy_telegram_write(koy_header_from_to(2, 5, KOY_FC_FDL_STATUS), NULL, 0, buf, sizeof buf).length == 6);
     CHECK(koy_telegram_write(koy_header_from_to(2, 5, KOY_FC_FDL_STATUS), NULL, 0, NULL, 0).code == KOY_NO_ROOM);
     CHECK(koy_token_write(koy_from_to(2, 5), NULL, 0).code == KOY_NO_ROOM);
@@ -436,7 +580,7 @@ static void null_bus(void)
 static void null_bus_plain(void)
 {
     size_t told[9], cursor = 0, walked = 0;
-    CHECK(koy_read(NULL, 0, told) == KOY_INCOMPLETE);
+    CHECK(koy_read(NULL, 0, told) == KOY_INCOMPLETE && koy_read_strict(NULL, 0, told) == KOY_INCOMPLETE);
     CHECK(koy_write_data(5, 2, KOY_ABSENT, KOY_ABSENT, KOY_FC_FDL_STATUS, NULL, 0, buf, sizeof buf, told) == KOY_DONE);
     CHECK(koy_write_data(5, 2, 60, 62, KOY_FC_SRD_LOW, NULL, 0, buf, sizeof buf, told) == KOY_DONE && told[0] == 11);
     CHECK(koy_write_data(5, 2, KOY_ABSENT, KOY_ABSENT, KOY_FC_FDL_STATUS, NULL, 0, NULL, 0, told) == KOY_NO_ROOM);
@@ -510,7 +654,8 @@ static void null_link_guarded(void)
 
 static bool is_code(size_t code)
 {
-    return code <= KOY_INPUT_TOO_LONG || (code >= KOY_INCOMPLETE && code <= KOY_HANDED_UP);
+    return code <= KOY_INPUT_TOO_LONG || code == KOY_LENGTH_NOT_STANDARD || code == KOY_FOURTH_BYTE ||
+           (code >= KOY_INCOMPLETE && code <= KOY_HANDED_UP);
 }
 
 /* every code has a text of its own, and no other number has one */
@@ -540,6 +685,10 @@ int main(void)
     reading_random_bytes();
     reading();
     longest_announced();
+    strict_random_bytes();
+    strict_starts();
+    strict_samples();
+    strict_lengths();
     writing();
     function_codes();
     stations();

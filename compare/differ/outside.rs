@@ -1,4 +1,4 @@
-//! The expected differences: where document 01 decides outside the Rust's domain. Each rule says to which commands it
+//! The expected differences: where document 01, or a later request, decides outside the Rust's domain. Each rule says to which commands it
 //! belongs and what our side must then answer, letter for letter.
 
 /// A command outside the domain.
@@ -17,7 +17,7 @@ pub struct Rule {
     pub wanted: fn(&Case) -> Option<String>,
 }
 
-pub const RULES: [Rule; 9] = [
+pub const RULES: [Rule; 10] = [
     Rule {
         name: "address above 127",
         reason: "8; the Rust writes it, or panics on what else is wrong",
@@ -34,6 +34,7 @@ pub const RULES: [Rule; 9] = [
     Rule { name: "store of length 0", reason: "the end; the Rust panics", wanted: empty_store },
     Rule { name: "walked length above the store", reason: "counts as the store's; the Rust panics", wanted: long_walk },
     Rule { name: "block of length zero", reason: "14; the Rust panics", wanted: zero_length },
+    Rule { name: "sloppy start in strict mode", reason: "24 or 25; the Rust has no such mode", wanted: sloppy },
     Rule { name: "cycling Inactive", reason: "15; the Rust panics", wanted: inactive },
 ];
 
@@ -97,6 +98,21 @@ fn no_room(case: &Case) -> Option<String> {
         _ => return None,
     };
     (case.rust == "panic" && number(room) < total).then_some("refused 10".to_string())
+}
+
+/// Of an SD2 telegram whose lengths agree and are not below 3, once six bytes are there: L, then the fourth byte.
+fn sloppy(case: &Case) -> Option<String> {
+    let ["sread", bytes] = case.words[..] else { return None };
+    let byte = |place: usize| u8::from_str_radix(bytes.get(2 * place..2 * place + 2)?, 16).ok();
+    let (length, fourth) = (byte(1)?, byte(3)?);
+    if byte_count(bytes) < 6 || byte(0)? != 0x68 || byte(2)? != length || length < 3 {
+        return None;
+    }
+    match (length, fourth) {
+        (3 | 250..=255, _) => Some("refused 24".to_string()),
+        (_, 0x68) => None,
+        _ => Some("refused 25".to_string()),
+    }
 }
 
 fn own_address(case: &Case) -> Option<String> {

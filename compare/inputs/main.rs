@@ -8,6 +8,7 @@ mod random;
 mod reading;
 mod sample;
 mod stations;
+mod strict;
 mod telegram;
 mod writing;
 
@@ -61,6 +62,7 @@ fn make(asked: &Asked) -> Result<()> {
     diagnostics::make(&mut inside, *seed, *size);
     let mut outside = Chunks::new(out.join("outside"))?;
     outside::make(&mut outside, *seed);
+    strict::Strict { inside: &mut inside, outside: &mut outside }.make(*seed, *size);
     println!("seed={seed} size={size} inside={} outside={}", inside.finish(), outside.finish());
     if let Some(each) = sample {
         let count = sample::make(&out.join("inside"), &out.join("sample"), *each)?;

@@ -35,7 +35,8 @@ fn answer(line: &[u8]) -> Option<String> {
     }
     let words: Vec<&str> = std::str::from_utf8(line).ok()?.split(' ').collect();
     match words[..] {
-        ["read", bytes] => telegrams::read(bytes),
+        // The original has no strict mode: where that answers otherwise, the differ has a rule.
+        ["read" | "sread", bytes] => telegrams::read(bytes),
         ["write", da, sa, dsap, ssap, fc, pdu, room] => telegrams::write([da, sa], [dsap, ssap], fc, pdu, room),
         ["wtoken", da, sa, room] => telegrams::write_token(da, sa, room),
         ["wack", room] => telegrams::write_ack(room),

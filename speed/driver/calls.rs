@@ -20,6 +20,7 @@ pub type Responder = [u8; 250];
 
 extern "C" {
     pub fn koy_read(bytes: *const u8, len: usize, told: &mut [usize; 9]) -> u8;
+    pub fn koy_read_strict(bytes: *const u8, len: usize, told: &mut [usize; 9]) -> u8;
     pub fn koy_write_data(
         da: u8,
         sa: u8,
@@ -176,6 +177,7 @@ extern "C" {
 pub fn ours() -> Vec<(*const (), &'static str)> {
     vec![
         (koy_read as *const (), "read"),
+        (koy_read_strict as *const (), "read_strict"),
         (koy_write_data as *const (), "write_data"),
         (koy_write_token as *const (), "write_token"),
         (koy_write_confirmation as *const (), "write_confirmation"),

@@ -13,8 +13,14 @@ pub fn calls(plan: Plan) {
     if !plan.wants("other") && !plan.word.starts_with("other") {
         return;
     }
-    let mut state = [0; 132];
+    let telegram = [0x68, 4, 4, 0x68, 5, 2, 0x5C, 1, 0x64, 0x16];
     // Sound, here and below: the arrays have the stated sizes, pointers and lengths are slices'.
+    assert_eq!(unsafe { koy_read_strict(telegram.as_ptr(), telegram.len(), &mut [0; 9]) }, 0);
+    case(plan, "other-read-strict", koy_read_strict as *const (), &mut || {
+        let bytes = black_box(&telegram);
+        _ = black_box(unsafe { koy_read_strict(bytes.as_ptr(), bytes.len(), black_box(&mut [0; 9])) })
+    });
+    let mut state = [0; 132];
     assert_eq!(unsafe { koy_stations_new(&mut state, 5) }, 0);
     case(plan, "other-stations-new", koy_stations_new as *const (), &mut || {
         _ = black_box(unsafe { koy_stations_new(black_box(&mut state.clone()), black_box(5)) })

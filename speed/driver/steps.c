@@ -1,16 +1,22 @@
-/* Counts the instructions of koy_read and the stack that it takes, by going through each call one instruction at a time (stack.c): for machines
-   on which valgrind cannot run the library. The cases are those of telegrams.rs, under the same names, and then every function code. */
+/* Counts the instructions of koy_read and of koy_read_strict and the stack that they take, by going through each call one instruction at a time
+   (stack.c): for machines on which valgrind cannot run the library. The cases are those of telegrams.rs, under the same names, those that
+   strict mode refuses, and then every function code. */
 #include <stddef.h>
 #include <stdint.h>
 #include <stdio.h>
 
 uint8_t koy_read(const uint8_t *bytes, size_t len, size_t told[9]);
+uint8_t koy_read_strict(const uint8_t *bytes, size_t len, size_t told[9]);
 uint8_t koy_write_data(uint8_t da, uint8_t sa, size_t dsap, size_t ssap, uint8_t fc, const uint8_t *pdu, size_t pdu_len, uint8_t *buf,
                        size_t buf_len, size_t told[2]);
 size_t deepest_stack(uintptr_t entry, void (*call)(void *), void *with);
 unsigned long steps_taken(void);
 
 enum { ABSENT = 256, SRD_LOW = 0x5C, LONGEST = 255 };
+
+/* the reader that is counted, and its name */
+static uint8_t (*reader)(const uint8_t *, size_t, size_t *) = koy_read;
+static const char *reader_name = "read";
 
 struct reading {
     const uint8_t *bytes;
@@ -23,20 +29,20 @@ static void call(void *with)
 {
     struct reading *reading = with;
     size_t told[9];
-    reading->code = koy_read(reading->bytes, reading->len, told);
+    reading->code = reader(reading->bytes, reading->len, told);
 }
 
 static struct reading counted(const uint8_t *bytes, size_t len)
 {
     struct reading reading = {.bytes = bytes, .len = len};
-    reading.stack = deepest_stack((uintptr_t)koy_read, call, &reading);
+    reading.stack = deepest_stack((uintptr_t)reader, call, &reading);
     return reading;
 }
 
 static void read_case(const char *name, const uint8_t *bytes, size_t len)
 {
     struct reading reading = counted(bytes, len);
-    printf("case=read-%s ours=%lu stack=%zu code=%u\n", name, steps_taken(), reading.stack, reading.code);
+    printf("case=%s-%s ours=%lu stack=%zu code=%u\n", reader_name, name, steps_taken(), reading.stack, reading.code);
 }
 
 static void read_sized(const char *name, size_t pdu_len, const uint8_t *bytes, size_t len)
@@ -98,6 +104,17 @@ static void refused(void)
         }
 }
 
+/* What koy_read reads, or waits for, and strict mode refuses. */
+static void sloppy(void)
+{
+    uint8_t buf[LONGEST];
+    size_t len = telegram(ABSENT, ABSENT, 32, buf);
+    read_case("sloppy-length-250", (const uint8_t[]){0x68, 0xFA, 0xFA, 0x68, 0, 0}, 6);
+    read_case("sloppy-length-3", (const uint8_t[]){0x68, 3, 3, 0x68, 5, 2, 0x49, 0x50, 0x16}, 9);
+    buf[3] = 0;
+    read_sized("sloppy-fourth", 32, buf, len);
+}
+
 enum kind { REQUEST, RESPONSE, NONE };
 
 /* The telegrams of six bytes with each function code of a kind. */
@@ -119,13 +136,22 @@ static void codes(const char *name, enum kind wanted)
     printf("codes=%s bytes=%lu mean=%.1f least=%lu most=%lu\n", name, count, (double)all / (double)count, least, most);
 }
 
-int main(void)
+static void cases(void)
 {
     whole();
     incomplete();
     refused();
+    sloppy();
+}
+
+int main(void)
+{
+    cases();
     codes("requests", REQUEST);
     codes("responses", RESPONSE);
     codes("none", NONE);
+    reader = koy_read_strict;
+    reader_name = "read-strict";
+    cases();
     return 0;
 }

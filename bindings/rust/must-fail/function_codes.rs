@@ -47,7 +47,9 @@ pub fn refusals(refusal: Refusal) -> bool {
         | Refusal::Tries
         | Refusal::SettingsForm
         | Refusal::NoReplyOwed
-        | Refusal::InputTooLong => {}
+        | Refusal::InputTooLong
+        | Refusal::LengthNotStandard
+        | Refusal::FourthByte => {}
     }
     refusal == Refusal::NoRoom
 }

@@ -24,6 +24,7 @@ pub const KOY_RESPONDER_SIZE: usize = 250;
 
 extern "C" {
     pub fn koy_read(bytes: *const u8, bytes_len: usize, told: *mut [usize; 9]) -> u8;
+    pub fn koy_read_strict(bytes: *const u8, bytes_len: usize, told: *mut [usize; 9]) -> u8;
     pub fn koy_write_data(
         da: u8,
         sa: u8,

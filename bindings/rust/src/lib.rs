@@ -3,13 +3,15 @@
 //! which are written in Rattle; every call is proved to answer every input as document 01 says. No dependencies, and no std; the feature
 //! `std`, which is on unless `default-features = false` is said, adds `std::error::Error` to the refusals.
 //!
-//! A refused call returns the [`Refusal`] with document 01's number and leaves all that it was lent as it came. ("Document 01" is the paper
-//! of scope and precise rules that the functions are proved against. What a driver needs of it is said here.)
+//! A refused call returns the [`Refusal`] with its number and leaves all that it was lent as it came. ("Document 01" is the paper
+//! of scope and precise rules that the functions are proved against. What a driver needs of it is said here. Strict reading and the guarded
+//! ends go beyond it, and are proved to do what is said of them here.)
 //!
 //! | to | take |
 //! |---|---|
 //! | read one telegram | [`read`] |
 //! | go through the telegrams of a capture or a receive buffer, noise between them | [`telegrams`] |
+//! | find couplers that send sloppy SD2 telegrams | [`read_strict`], beside one of these |
 //! | write a telegram | [`write_data`], [`write_token`], [`write_confirmation`] |
 //! | follow the token | [`StationList`] |
 //! | go through extended diagnostics | [`Walk`] |
@@ -61,6 +63,6 @@ pub use refusal::Refusal;
 pub use settings::Settings;
 pub use stations::{Phase, StationList};
 pub use telegram::{
-    read, telegrams, write_confirmation, write_data, write_token, End, Found, Header, Reading, Telegram, Telegrams,
-    Written, LONGEST_TELEGRAM,
+    read, read_strict, telegrams, write_confirmation, write_data, write_token, End, Found, Header, Reading, Telegram,
+    Telegrams, Written, LONGEST_TELEGRAM,
 };

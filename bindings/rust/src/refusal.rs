@@ -1,7 +1,7 @@
-//! Document 01's refusals.
+//! Document 01's refusals, and those of strict reading.
 use core::fmt;
 
-/// Why a call was refused, with document 01's number. More may come with later requests.
+/// Why a call was refused, with its number: 1 to 22 are document 01's, 24 and 25 those of strict reading. More may come with later requests.
 ///
 /// ```
 /// # use koyandefa::Refusal;
@@ -57,12 +57,16 @@ pub enum Refusal {
     NoReplyOwed = 21,
     /// 22: the lister's input is above 4,096 bytes. No call of this crate gives it.
     InputTooLong = 22,
+    /// 24, strict reading alone: the length byte of an SD2 telegram is 3 or above 249.
+    LengthNotStandard = 24,
+    /// 25, strict reading alone: the fourth byte of an SD2 telegram is not 68.
+    FourthByte = 25,
 }
 
 use Refusal::*;
 
 /// Every refusal in the order of its number, with its words.
-const ALL: [(Refusal, &str); 22] = [
+const ALL: [(Refusal, &str); 24] = [
     (UnknownStart, "the first byte begins no telegram"),
     (LengthsDiffer, "second and third byte of an SD2 telegram differ"),
     (LengthTooSmall, "the length byte of an SD2 telegram is below 3"),
@@ -85,10 +89,12 @@ const ALL: [(Refusal, &str); 22] = [
     (SettingsForm, "the settings text has another form"),
     (NoReplyOwed, "an answer is given where none is owed, or for another order"),
     (InputTooLong, "the lister's input is above 4,096 bytes"),
+    (LengthNotStandard, "the length byte of an SD2 telegram is 3 or above 249, in strict mode"),
+    (FourthByte, "the fourth byte of an SD2 telegram is not 68, in strict mode"),
 ];
 
 impl Refusal {
-    /// Document 01's number, 1 to 22.
+    /// Its number: 1 to 22 are document 01's, 24 and 25 those of [`read_strict`](crate::read_strict). There is no 23.
     #[must_use]
     pub const fn number(self) -> u8 {
         self as u8
@@ -99,7 +105,7 @@ impl Refusal {
     /// ```
     /// # use koyandefa::Refusal;
     /// assert_eq!(Refusal::of(6), Some(Refusal::Checksum));
-    /// assert_eq!(Refusal::of(0), None);
+    /// assert_eq!((Refusal::of(0), Refusal::of(23)), (None, None));
     /// ```
     #[must_use]
     pub fn of(number: u8) -> Option<Refusal> {
@@ -107,8 +113,9 @@ impl Refusal {
     }
 
     /// When it is given.
+    // Every refusal stands in `ALL`, so the other words are never met.
     pub(crate) fn words(self) -> &'static str {
-        ALL[usize::from(self.number()) - 1].1
+        ALL.iter().find(|&&(refusal, _)| refusal == self).map_or("a refusal without words", |&(_, words)| words)
     }
 
     // The library returns no other number than its promise says, so the panic is never met.
@@ -125,7 +132,7 @@ pub(crate) fn done(code: u8) -> Result<(), Refusal> {
     }
 }
 
-/// The number, and when document 01 gives it, in words.
+/// The number, and when it is given, in words.
 impl fmt::Display for Refusal {
     fn fmt(&self, f: &mut fmt::Formatter<'_>) -> fmt::Result {
         write!(f, "refused {}: {}", self.number(), self.words())

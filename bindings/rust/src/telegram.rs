@@ -106,6 +106,36 @@ fn number(sap: Option<Sap>) -> usize {
 pub fn read(bytes: &[u8]) -> Result<Reading<'_>, Refusal> {
     let mut told = [0; 9];
     let code = unsafe { ffi::koy_read(bytes.as_ptr(), bytes.len(), &mut told) };
+    reading(bytes, code, told)
+}
+
+/// The telegram that these bytes begin with, in strict mode: for who hunts couplers that send sloppy SD2 telegrams. Refusals 1 to 7, 24
+/// and 25.
+///
+/// Of an SD2 telegram, behind refusals 2 and 3 and before its total length is looked at, 24 is given where the length byte is 3 or above
+/// 249, then 25 where the fourth byte is not 68. All else is answered as by [`read`]: what is read here, `read` reads alike.
+///
+/// Drivers keep [`read`], as [`telegrams`] and the order link do: what a sloppy coupler sends is still a telegram. Take this call beside it,
+/// on the bytes of each telegram that `read` has found, as examples/list.rs does with `--strict`.
+///
+/// ```
+/// # use koyandefa::{read, read_strict, Reading, Refusal};
+/// // From station 12, whose coupler sends 00 for the fourth byte.
+/// let sloppy = [0x68, 0x07, 0x07, 0x00, 0x02, 0x0C, 0x08, 0x02, 0x33, 0x1F, 0x00, 0x6A, 0x16];
+/// assert!(matches!(read(&sloppy), Ok(Reading::Telegram { bytes, .. }) if bytes == sloppy));
+/// assert_eq!(read_strict(&sloppy), Err(Refusal::FourthByte));
+/// // The same as it ought to be.
+/// let tidy = [0x68, 0x07, 0x07, 0x68, 0x02, 0x0C, 0x08, 0x02, 0x33, 0x1F, 0x00, 0x6A, 0x16];
+/// assert!(matches!(read_strict(&tidy), Ok(Reading::Telegram { bytes, .. }) if bytes == tidy));
+/// ```
+pub fn read_strict(bytes: &[u8]) -> Result<Reading<'_>, Refusal> {
+    let mut told = [0; 9];
+    let code = unsafe { ffi::koy_read_strict(bytes.as_ptr(), bytes.len(), &mut told) };
+    reading(bytes, code, told)
+}
+
+/// What a reader of these bytes answered and told.
+fn reading(bytes: &[u8], code: u8, told: [usize; 9]) -> Result<Reading<'_>, Refusal> {
     if code == ffi::KOY_INCOMPLETE {
         return Ok(Reading::Incomplete);
     }

@@ -301,6 +301,7 @@ fn four_tries_where_none_are_stated() {
 #[test]
 fn refusals_in_words() {
     let mut words: Vec<String> = (1..=22)
+        .chain([24, 25])
         .map(|number| {
             let text = Refusal::of(number).unwrap().to_string();
             let words = text.strip_prefix(&format!("refused {number}: ")).expect("the number first");
@@ -308,10 +309,12 @@ fn refusals_in_words() {
         })
         .collect();
     assert_eq!(words[16], "an order is already pending");
+    assert_eq!(words[22], "the length byte of an SD2 telegram is 3 or above 249, in strict mode");
+    assert_eq!(words[23], "the fourth byte of an SD2 telegram is not 68, in strict mode");
     words.sort();
     words.dedup();
-    assert_eq!(words.len(), 22);
-    assert_eq!((Refusal::of(0), Refusal::of(23)), (None, None));
+    assert_eq!(words.len(), 24);
+    assert_eq!((0..=255).filter(|&number| Refusal::of(number).is_some()).count(), 24);
 }
 
 #[cfg(feature = "std")]

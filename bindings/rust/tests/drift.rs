@@ -1,5 +1,6 @@
 //! Holds the declarations for Rust and C against the functions that the Rattle source exports: names, parameters, sizes and
 //! results. A planted drift of each kind is found.
+use koyandefa::Refusal;
 use std::collections::BTreeMap;
 use std::fs;
 use std::path::Path;
@@ -14,7 +15,7 @@ fn text(path: &str) -> String {
 }
 
 fn rattle_source() -> String {
-    let folders = ["telegrams", "stations", "diagnostics", "settings", "link", "guarded"]
+    let folders = ["telegrams", "strict", "stations", "diagnostics", "settings", "link", "guarded"]
         .map(|name| Path::new(env!("CARGO_MANIFEST_DIR")).join(format!("../../crates/exports_{name}/src")));
     let files = folders.iter().flat_map(|f| fs::read_dir(f).unwrap_or_else(|e| panic!("{}: {e}", f.display())));
     files.map(|file| fs::read_to_string(file.unwrap().path()).unwrap()).collect()
@@ -217,7 +218,7 @@ fn header() -> String {
 #[test]
 fn rust_declares_what_is_exported() {
     let source = rattle(&rattle_source());
-    assert_eq!(source.len(), 34, "so many functions are exported");
+    assert_eq!(source.len(), 35, "so many functions are exported");
     assert_eq!(differences(&source, &rust(&text("src/ffi.rs"))), Vec::<String>::new());
 }
 
@@ -236,16 +237,25 @@ fn the_numbers_agree() {
     }
 }
 
+/// A refusal's name as C writes it.
+fn c_name(refusal: Refusal) -> String {
+    let letters = |c: char| if c.is_uppercase() { vec!['_', c] } else { vec![c.to_ascii_uppercase()] };
+    format!("KOY{}", format!("{refusal:?}").chars().flat_map(letters).collect::<String>())
+}
+
+/// In number, and in the words that the C text of a code has.
 #[test]
 fn the_refusals_agree() {
     let c = numbers(&bare(&header()), "#define ", " ");
-    for number in (1..=21).filter(|&n| n != 15) {
-        let refusal = format!("{:?}", koyandefa::Refusal::of(number).unwrap());
-        let name: String = refusal
-            .chars()
-            .flat_map(|c| if c.is_uppercase() { vec!['_', c] } else { vec![c.to_ascii_uppercase()] })
-            .collect();
-        assert_eq!(c.get(&format!("KOY{name}")), Some(&number.to_string()), "{refusal}");
+    let named = text("../c/koyandefa_named.h");
+    let refusals: Vec<Refusal> = (0..=255).filter_map(Refusal::of).collect();
+    assert_eq!(refusals.len(), 24);
+    for refusal in refusals {
+        let (name, number) = (c_name(refusal), refusal.number().to_string());
+        assert_eq!(c.get(&name), Some(&number), "{refusal:?}");
+        let told = refusal.to_string();
+        let words = told.split_once(": ").unwrap().1;
+        assert!(named.contains(&format!("case {name}: return \"{words}\";")), "{name}: {words}");
     }
 }
 

@@ -8,6 +8,7 @@ use Rattle.exports_guarded.proofs.Determined as exportsGuarded
 use Rattle.exports_link.proofs.Determined as exportsLink
 use Rattle.exports_settings.proofs.Determined as exportsSettings
 use Rattle.exports_stations.proofs.Determined as exportsStations
+use Rattle.exports_strict.proofs.Determined as exportsStrict
 use Rattle.exports_telegrams.proofs.Determined as exportsTelegrams
 use Rattle.ground.proofs.Determined as ground
 use Rattle.guards.proofs.Determined as guards
@@ -23,6 +24,7 @@ use Rattle.ring_driver.proofs.Determined as ringDriver
 use Rattle.settings.proofs.Determined as settings
 use Rattle.telegram.proofs.Determined as telegram
 use Rattle.telegram_bytes.proofs.Determined as telegramBytes
+use Rattle.telegram_strict.proofs.Determined as telegramStrict
 use Rattle.telegram_tx.proofs.Determined as telegramTx
 use Rattle.text.proofs.Determined as text
 use Rattle.token_ring.proofs.Determined as tokenRing
@@ -32,6 +34,7 @@ pub record EveryCall : Type 2 where
   pub codes : codes.Calls
   pub telegram : telegram.Calls
   pub telegramBytes : telegramBytes.Calls
+  pub telegramStrict : telegramStrict.Calls
   pub telegramTx : telegramTx.Calls
   pub tokenRing : tokenRing.Calls
   pub ringDriver : ringDriver.Calls
@@ -47,6 +50,7 @@ pub record EveryCall : Type 2 where
   pub responderRow : responderRow.Calls
   pub responder : responder.Calls
   pub exportsTelegrams : exportsTelegrams.Calls
+  pub exportsStrict : exportsStrict.Calls
   pub exportsStations : exportsStations.Calls
   pub exportsDiagnostics : exportsDiagnostics.Calls
   pub exportsSettings : exportsSettings.Calls
@@ -62,6 +66,7 @@ every-call =
       codes = codes.determined;
       telegram = telegram.determined;
       telegramBytes = telegramBytes.determined;
+      telegramStrict = telegramStrict.determined;
       telegramTx = telegramTx.determined;
       tokenRing = tokenRing.determined;
       ringDriver = ringDriver.determined;
@@ -77,6 +82,7 @@ every-call =
       responderRow = responderRow.determined;
       responder = responder.determined;
       exportsTelegrams = exportsTelegrams.determined;
+      exportsStrict = exportsStrict.determined;
       exportsStations = exportsStations.determined;
       exportsDiagnostics = exportsDiagnostics.determined;
       exportsSettings = exportsSettings.determined;

@@ -81,6 +81,7 @@ use Rattle.exports_stations.proofs.stations.koy_stations_remove as koyStationsR
 use Rattle.exports_stations.proofs.stations.koy_stations_set_next as koyStationsSetNext
 use Rattle.exports_stations.specs.Bytes.{stationsOf}
 use Rattle.exports_stations.specs.Calls as stations
+use Rattle.exports_strict.proofs.koy_read_strict as koyReadStrict
 use Rattle.exports_telegrams.proofs.reading.koy_read as koyRead
 use Rattle.exports_telegrams.proofs.writing.koy_write_confirmation as koyWriteConfirmation
 use Rattle.exports_telegrams.proofs.writing.koy_write_data as koyWriteData
@@ -105,7 +106,9 @@ use Rattle.initiator.specs.Records.{madeOf as initiatorMade}
 use Rattle.link_rules.specs.Rules.{linkOf}
 use Rattle.link_telegrams.specs.Turns as turns
 use Rattle.listing.proofs.whole.list as list
+use Rattle.listing.proofs.whole.list_in as listIn
 use Rattle.listing.proofs.whole.output as output
+use Rattle.listing.proofs.whole.output_in as outputIn
 use Rattle.listing.specs.Answers as listing
 use Rattle.responder.proofs.head.ResponderHead.answer as responderHeadAnswer
 use Rattle.responder.proofs.head.ResponderHead.hear as responderHeadHear
@@ -127,6 +130,10 @@ use Rattle.telegram.specs.Frames.{shownFrame, frameRefused}
 use Rattle.telegram.specs.Reading as reading
 use Rattle.telegram_bytes.proofs.serialized.serialize as serialize
 use Rattle.telegram_bytes.specs.Serialized.{shownSerialized}
+use Rattle.telegram_strict.proofs.strict.deserialize_in as deserializeIn
+use Rattle.telegram_strict.proofs.strict.deserialize_strict as deserializeStrict
+use Rattle.telegram_strict.proofs.strict.strict_start as strictStart
+use Rattle.telegram_strict.specs.Strict.{strictOf}
 use Rattle.telegram_tx.proofs.tx.send_coded_telegram as sendCodedTelegram
 use Rattle.telegram_tx.proofs.tx.send_data_telegram as sendDataTelegram
 use Rattle.telegram_tx.proofs.tx.send_fdl_status_request as sendFdlStatusRequest
@@ -152,6 +159,13 @@ pub record EveryRefusal : Type 2 where
   pub cycle : RefusedStays cycle.ended cycle.Reads.Learnt (λ κs x. IsRefused refused (shownCycled x)) (λ κs e. e)
   pub deserialize :
       RefusedStays deserialize.ended deserialize.Reads.Learnt (λ κs x. IsRefused reading.refused (reading.shownReading x))
+      (λ κs e. e)
+  pub strictStart : RefusedStays strictStart.ended strictStart.Reads.Learnt (λ κs x. IsNumber (shown x)) (λ κs e. e)
+  pub deserializeStrict :
+      RefusedStays deserializeStrict.ended deserializeStrict.Reads.Learnt (λ κs x. IsRefused reading.refused (reading.shownReading x))
+      (λ κs e. e)
+  pub deserializeIn :
+      RefusedStays deserializeIn.ended deserializeIn.Reads.Learnt (λ κs x. IsRefused reading.refused (reading.shownReading x))
       (λ κs e. e)
   pub frameOf : RefusedStays frameOf.ended frameOf.Reads.Learnt (λ κs x. IsRefused frameRefused (shownFrame x)) (λ κs e. e)
   pub serialize :
@@ -200,6 +214,8 @@ pub record EveryRefusal : Type 2 where
       RefusedStays writeSettings.ended writeSettings.Reads.Learnt (λ κs x. IsRefused settingsWriting.refused (settingsWriting.shownWritten x))
       (λ κs e. e)
   pub list : RefusedStays list.ended list.Reads.Learnt (λ κs x. IsRefused refused (listing.shownListed x)) (λ κs e. e)
+  pub listIn : RefusedStays listIn.ended listIn.Reads.Learnt (λ κs x. IsRefused refused (listing.shownListed x)) (λ κs e. e)
+  pub outputIn : RefusedStays outputIn.ended outputIn.Reads.Learnt (λ κs x. IsRefused refused (listing.shownListed x)) (λ κs e. e)
   pub output : RefusedStays output.ended output.Reads.Learnt (λ κs x. IsRefused refused (listing.shownListed x)) (λ κs e. e)
   -- the initiator: made, by value, on a head and a lent order
   pub initiatorNew : RefusedStays initiatorNew.ended initiatorNew.Reads.Learnt (λ κs x. IsNumber (shown (x .answer))) (λ κs e. e)
@@ -249,6 +265,7 @@ pub record EveryRefusal : Type 2 where
       (λ κs e. e) (λ κs a x. x .head) (λ κs a. a .0)
   -- the static libraries, whose codes are the numbers
   pub koyRead : RefusedStays koyRead.ended koyRead.Reads.Learnt (λ κs x. IsNumber x) (λ κs e. e)
+  pub koyReadStrict : RefusedStays koyReadStrict.ended koyReadStrict.Reads.Learnt (λ κs x. IsNumber x) (λ κs e. e)
   pub koyWriteData : RefusedStays koyWriteData.ended koyWriteData.Reads.Learnt (λ κs x. IsNumber x) (λ κs e. e)
   pub koyWriteToken : RefusedStays koyWriteToken.ended koyWriteToken.Reads.Learnt (λ κs x. IsNumber x) (λ κs e. e)
   pub koyWriteConfirmation : RefusedStays koyWriteConfirmation.ended koyWriteConfirmation.Reads.Learnt (λ κs x. IsNumber x) (λ κs e. e)
@@ -306,6 +323,9 @@ refused-stays =
     record {
       cycle = record { leaves = λ κs a m r. (refl, refl) };
       deserialize = record { leaves = λ κs a m r. (refl, refl) };
+      strictStart = record { leaves = λ κs a m r. (refl, refl) };
+      deserializeStrict = record { leaves = λ κs a m r. (refl, refl) };
+      deserializeIn = record { leaves = λ κs a m r. (refl, refl) };
       frameOf = record { leaves = λ κs a m r. (refl, refl) };
       serialize =
           record {
@@ -400,6 +420,18 @@ refused-stays =
             leaves = λ κs a m r.
                 let p = listing-stays _ _ (m .meets .result) (m .meets .buffer) r in
                 (λ i. (a .0, (at-last (a .1 .0) (p i), tt)), refl);
+          };
+      listIn =
+          record {
+            leaves = λ κs a m r.
+                let p = listing-stays _ _ (m .meets .result) (m .meets .buffer) r in
+                (λ i. (a .0, (a .1 .0, (at-last (a .1 .1 .0) (p i), tt))), refl);
+          };
+      outputIn =
+          record {
+            leaves = λ κs a m r.
+                let p = listing-stays _ _ (m .meets .result) (m .meets .buffer) r in
+                (λ i. (a .0, (a .1 .0, (at-last (a .1 .1 .0) (p i), tt))), refl);
           };
       initiatorNew = record { leaves = λ κs a m r. (refl, refl) };
       withDefaultTries = record { leaves = λ κs a m r. (refl, refl) };
@@ -496,6 +528,12 @@ refused-stays =
           record {
             leaves = λ κs a m r.
                 let s = carried (λ (c : ReadCall). IsNumber (c .code) → c .told ≡ now (a .1 .0)) (m .meets) (read-told (reading.readOf (now (a .0))) (now (a .1 .0))) r in
+                (λ i. (a .0, (at-last (a .1 .0) (s i), tt)), refl);
+          };
+      koyReadStrict =
+          record {
+            leaves = λ κs a m r.
+                let s = carried (λ (c : ReadCall). IsNumber (c .code) → c .told ≡ now (a .1 .0)) (m .meets) (read-told (strictOf (now (a .0))) (now (a .1 .0))) r in
                 (λ i. (a .0, (at-last (a .1 .0) (s i), tt)), refl);
           };
       koyWriteData =

@@ -1,4 +1,4 @@
-// The bench's commands on telegrams: `read`, `about`, `fc` and `cycle` in `reading`, those that write in `writing`.
+// The bench's commands on telegrams: `read`, `sread`, `about`, `fc` and `cycle` in `reading`, those that write in `writing`.
 mod reading;
 mod writing;
 
@@ -18,6 +18,7 @@ fn command(number: usize, input: &Input, at: usize, out: &mut Out, to: usize) ->
         6 => Answered::Until(writing::wack(input, at, out, to)),
         7 => Answered::Until(writing::wstatus(input, at, out, to)),
         8 => Answered::Until(writing::wstate(input, at, out, to)),
+        9 => Answered::Until(reading::sread(input, at, out, to)),
         _ => Answered::NotNamed,
     }
 }
@@ -26,7 +27,7 @@ pub fn answer(input: &Input, at: usize, out: &mut Out, to: usize) -> Answered {
     let name = number_of(
         input,
         at,
-        b"read about fc cycle write wtoken wack wstatus wstate ",
+        b"read about fc cycle write wtoken wack wstatus wstate sread ",
     );
     command(name.number, input, name.next, out, to)
 }

@@ -1,4 +1,4 @@
-// `read HEX`, `about HEX`, `fc BYTE`, `cycle FCB`
+// `read HEX`, `sread HEX`, `about HEX`, `fc BYTE`, `cycle FCB`
 use code_names::put_frame_count_bit;
 use codes::Cycled;
 use codes::FrameCountBit;
@@ -35,19 +35,30 @@ use telegram::Deserialized;
 use telegram::SapOption;
 use telegram::Telegram;
 use telegram::TokenTelegram;
+use telegram_strict::Mode;
+use telegram_strict::deserialize_in;
 
 // `read HEX`
 pub(crate) fn read(input: &Input, at: usize, out: &mut Out, to: usize) -> usize {
+    read_in(Mode::Default, input, at, out, to)
+}
+
+// `sread HEX`
+pub(crate) fn sread(input: &Input, at: usize, out: &mut Out, to: usize) -> usize {
+    read_in(Mode::Strict, input, at, out, to)
+}
+
+fn read_in(mode: Mode, input: &Input, at: usize, out: &mut Out, to: usize) -> usize {
     let mut bytes = [0u8; 4200];
     let word = get_hex(input, at, &mut bytes);
     if !is_end(input, word.next) {
         return put_error(out, to, word.next);
     }
-    put_read(out, to, shown(&bytes, word.value))
+    put_read(out, to, mode, shown(&bytes, word.value))
 }
 
-fn put_read(out: &mut Out, to: usize, bytes: &[u8]) -> usize {
-    match Telegram::deserialize(bytes) {
+fn put_read(out: &mut Out, to: usize, mode: Mode, bytes: &[u8]) -> usize {
+    match deserialize_in(mode, bytes) {
         Deserialized::Telegram(telegram, total) => put_telegram(out, to, telegram, total, bytes),
         Deserialized::Incomplete => put_text(out, to, b"incomplete"),
         Deserialized::Refused(refusal) => put_refused(out, to, refusal.number()),

@@ -3,10 +3,12 @@
 pub mod Theorem
 -- what it rests on, part by part
 pub mod OurReader
+pub mod OurStrictReader
 pub mod OurWriter
 pub mod OurWalk
 -- systems for which it is refuted
 pub mod WrongReaders
+pub mod WrongStrictReaders
 pub mod WrongWriters
 pub mod WrongWalks
 pub mod WrongLists

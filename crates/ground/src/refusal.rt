@@ -26,6 +26,8 @@ pub enum Refusal {
     SettingsForm,
     NoReplyOwed,
     InputTooLong,
+    LengthNotStandard,
+    FourthByte,
 }
 
 impl Refusal {
@@ -55,6 +57,8 @@ impl Refusal {
             Refusal::SettingsForm => 20,
             Refusal::NoReplyOwed => 21,
             Refusal::InputTooLong => 22,
+            Refusal::LengthNotStandard => 24,
+            Refusal::FourthByte => 25,
         }
     }
 }

@@ -13,12 +13,13 @@ use Rattle.ground.specs.declared.refusal.Refusal.the-variants.{NoRoom, InputToo
 use Rattle.ground.proofs.Injective.{injective}
 use Rattle.ground.proofs.RefusalLaws.{refusalOf, refusal-again}
 use Rattle.telegram.specs.Begins.{Bytes}
+use Rattle.telegram_strict.specs.declared.strict.Mode.{Mode}
 use Rattle.text.specs.Placed.{laid, Placed}
 use Rattle.text.proofs.PlacedLaws.{laid-length, laid-front}
 use Rattle.listing.specs.declared.whole.Listed.{Listed}
 use Rattle.listing.specs.declared.whole.Listed.the-variants.{Text, Refused}
-use Rattle.listing.specs.Answers.{shownListed, textIn, printedOf, listOf, Printed}
-use Rattle.listing.specs.Listing.{listingOf, refusedLine, outputOf, listingRoom}
+use Rattle.listing.specs.Answers.{shownListed, textIn, printedOf, listIn, Printed}
+use Rattle.listing.specs.Listing.{listingIn, refusedLine, outputIn, listingRoom}
 use Rattle.listing.proofs.ListingLaws.{listing-room}
 
 -- ---- an answer is led back to from what is shown of it
@@ -71,50 +72,50 @@ text-shown {text} {before} {after} {answer} h m = go answer (rw (le-leb _ _ h) a
         rw (n, b) (part-front (laid before 0 text) (length text) (rw (laid-length before 0 text) h) ∙ laid-front before text h)
     go (Refused x) r b = let z : _≡_ {A = ℕ} 0 1 = cc in absurd (omega arith)
 
-module _ (input : List ℕ) where
+module _ (mode : Mode) (input : List ℕ) where
   pub list-long : (before : List ℕ) → 4096 < length input
-      → Printed (listingOf input) before (listOf input (length before)) (Refused InputTooLong) before
-  unfolding listOf
+      → Printed (listingIn mode input) before (listIn mode input (length before)) (Refused InputTooLong) before
+  unfolding listIn
   list-long before h = record { result = rw (lt-ltb _ _ h); buffer = rw (lt-ltb _ _ h) }
 
-  pub list-printed : (room : ℕ) → length input ≤ 4096 → listOf input room ≡ printedOf (listingOf input) room
-  unfolding listOf
+  pub list-printed : (room : ℕ) → length input ≤ 4096 → listIn mode input room ≡ printedOf (listingIn mode input) room
+  unfolding listIn
   list-printed room h = rw (le-ltb _ _ h)
 
-  pub output-long : 4096 < length input → outputOf input ≡ refusedLine
-  unfolding outputOf
+  pub output-long : 4096 < length input → outputIn mode input ≡ refusedLine
+  unfolding outputIn
   output-long h = rw (lt-ltb _ _ h)
 
-  pub output-listing : length input ≤ 4096 → outputOf input ≡ listingOf input
-  unfolding outputOf
+  pub output-listing : length input ≤ 4096 → outputIn mode input ≡ listingIn mode input
+  unfolding outputIn
   output-listing h = rw (le-ltb _ _ h)
 
   -- `output` of what `list` printed
   pub output-listed : {before after : List ℕ} {answer : Listed} → length input ≤ 4096
-      → Printed (listingOf input) before (listOf input (length before)) answer after
-      → Printed (outputOf input) before (printedOf (outputOf input) (length before)) answer after
+      → Printed (listingIn mode input) before (listIn mode input (length before)) answer after
+      → Printed (outputIn mode input) before (printedOf (outputIn mode input) (length before)) answer after
   output-listed {before} h m = rw (output-listing h) (rw (list-printed (length before) h) at m)
 
   pub output-refused : {before after : List ℕ} {answer : Listed} → 4096 < length input
       → Printed refusedLine before (printedOf refusedLine (length before)) answer after
-      → Printed (outputOf input) before (printedOf (outputOf input) (length before)) answer after
+      → Printed (outputIn mode input) before (printedOf (outputIn mode input) (length before)) answer after
   output-refused h m = rw (output-long h) m
 
   -- What the lister prints fits the room, whatever the input.
-  pub output-room : Bytes input → length (outputOf input) ≤ listingRoom
+  pub output-room : Bytes input → length (outputIn mode input) ≤ listingRoom
   output-room byte = go (decLe (length input) 4096)
     where
-      go : Dec (length input ≤ 4096) → length (outputOf input) ≤ listingRoom
-      go (yes h) = rw (output-listing h) (listing-room input byte h)
+      go : Dec (length input ≤ 4096) → length (outputIn mode input) ≤ listingRoom
+      go (yes h) = rw (output-listing h) (listing-room mode input byte h)
       go (no h) = rw (output-long (omega arith)) (omega arith)
 
   -- So with that room `output` is never refused.
-  pub output-printed : (room : ℕ) → Bytes input → listingRoom ≤ room → printedOf (outputOf input) room ≡ gives (length (outputOf input))
+  pub output-printed : (room : ℕ) → Bytes input → listingRoom ≤ room → printedOf (outputIn mode input) room ≡ gives (length (outputIn mode input))
   unfolding printedOf
-  output-printed room byte h = rw (le-leb (length (outputOf input)) room (omega (arith, output-room byte)))
+  output-printed room byte h = rw (le-leb (length (outputIn mode input)) room (omega (arith, output-room byte)))
 
   -- And what `text` shows of its answer is what document 01 says, for every input.
   pub output-shown : {before after : List ℕ} {answer : Listed} → Bytes input → listingRoom ≤ length before
-      → Printed (outputOf input) before (printedOf (outputOf input) (length before)) answer after
-      → textIn answer after ≡ outputOf input
+      → Printed (outputIn mode input) before (printedOf (outputIn mode input) (length before)) answer after
+      → textIn answer after ≡ outputIn mode input
   output-shown byte h m = text-shown (omega (arith, output-room byte)) m

@@ -20,7 +20,10 @@ use Rattle.telegram.specs.declared.kinds.DataTelegram.{DataTelegram}
 use Rattle.telegram.specs.declared.kinds.Telegram.{Telegram}
 use Rattle.telegram.specs.declared.kinds.Telegram.the-variants as telegram
 use Rattle.telegram.proofs.Answers.{Answered, confirmation, token-whole, sd1, sd2, sd3, code-known, content-whole}
-use Rattle.telegram.proofs.ReadingLaws.{reason, total-within, total-positive, total-small, pdu-ends, addresses-small, refused-numbered}
+use Rattle.telegram.proofs.ReadingLaws.{reason, total-within, total-positive, total-small, pdu-ends, addresses-small}
+use Rattle.telegram_strict.proofs.ModeLaws.{mode-alike, mode-numbered}
+use Rattle.telegram_strict.specs.Strict.{readIn}
+use Rattle.telegram_strict.specs.declared.strict.Mode.{Mode}
 use Rattle.text.proofs.DecimalLaws.{small-length}
 use Rattle.listing_lines.specs.declared.line.End.{End}
 use Rattle.listing_lines.specs.declared.line.End.the-variants.{Done, Incomplete, Refused}
@@ -35,20 +38,20 @@ use Rattle.listing_lines.proofs.LineLaws.{line-length, figure-length, four-digi
 
 -- ---- the reason for an item
 
-pub data ItemFor (at : ℕ) (s : List ℕ) : Item → Type 0 where
-  at-end : length s ≡ 0 → ItemFor at s (item.Last Done at)
-  of-telegram : {t : Telegram} {n : ℕ} → readOf s ≡ whole t n → ItemFor at s (item.Telegram (lineAt at s t n))
-  of-incomplete : 1 ≤ length s → readOf s ≡ incomplete → ItemFor at s (item.Last Incomplete at)
-  of-refused : {k : ℕ} → 1 ≤ length s → readOf s ≡ refused k → ItemFor at s (item.Last (Refused k) at)
+pub data ItemFor (mode : Mode) (at : ℕ) (s : List ℕ) : Item → Type 0 where
+  at-end : length s ≡ 0 → ItemFor mode at s (item.Last Done at)
+  of-telegram : {t : Telegram} {n : ℕ} → readIn mode s ≡ whole t n → ItemFor mode at s (item.Telegram (lineAt at s t n))
+  of-incomplete : 1 ≤ length s → readIn mode s ≡ incomplete → ItemFor mode at s (item.Last Incomplete at)
+  of-refused : {k : ℕ} → 1 ≤ length s → readIn mode s ≡ refused k → ItemFor mode at s (item.Last (Refused k) at)
 
-read-for : (at : ℕ) (s : List ℕ) → 1 ≤ length s → (r : Reading) → readOf s ≡ r → ItemFor at s (itemRead at s r)
-read-for at s h (whole t n) e = of-telegram e
-read-for at s h incomplete e = of-incomplete h e
-read-for at s h (refused k) e = of-refused h e
+read-for : (mode : Mode) (at : ℕ) (s : List ℕ) → 1 ≤ length s → (r : Reading) → readIn mode s ≡ r → ItemFor mode at s (itemRead at s r)
+read-for mode at s h (whole t n) e = of-telegram e
+read-for mode at s h incomplete e = of-incomplete h e
+read-for mode at s h (refused k) e = of-refused h e
 
-pub item-for : (at : ℕ) (s : List ℕ) → ItemFor at s (itemOf at s)
+pub item-for : (mode : Mode) (at : ℕ) (s : List ℕ) → ItemFor mode at s (itemOf mode at s)
 unfolding itemOf
-item-for at s = go (eqb (length s) 0) refl
+item-for mode at s = go (eqb (length s) 0) refl
   where
     some : eqb (length s) 0 ≡ false → 1 ≤ length s
     some e = nonzero (length s) (eqb-false _ _ e)
@@ -56,20 +59,20 @@ item-for at s = go (eqb (length s) 0) refl
         nonzero : (n : ℕ) → (n ≡ 0 → ⊥) → 1 ≤ n
         nonzero n h = omega arith
 
-    go : (t : Bool) → eqb (length s) 0 ≡ t → ItemFor at s (if t (item.Last Done at) (itemRead at s (readOf s)))
+    go : (t : Bool) → eqb (length s) 0 ≡ t → ItemFor mode at s (if t (item.Last Done at) (itemRead at s (readIn mode s)))
     go true e = at-end (eqb-true _ _ e)
-    go false e = read-for at s (some e) (readOf s) refl
+    go false e = read-for mode at s (some e) (readIn mode s) refl
 
-pub item-reason : (at : ℕ) (s : List ℕ) {x : Item} → itemOf at s ≡ x → ItemFor at s x
-item-reason at s e = rw e at (item-for at s)
+pub item-reason : {mode : Mode} (at : ℕ) (s : List ℕ) {x : Item} → itemOf mode at s ≡ x → ItemFor mode at s x
+item-reason {mode} at s e = rw e at (item-for mode at s)
 
 -- the item, by what the reader answers
-module _ (at : ℕ) (s : List ℕ) where
-  pub item-done : length s ≡ 0 → itemOf at s ≡ item.Last Done at
+module _ (mode : Mode) (at : ℕ) (s : List ℕ) where
+  pub item-done : length s ≡ 0 → itemOf mode at s ≡ item.Last Done at
   unfolding itemOf
   item-done e = rw (eq-eqb _ _ e)
 
-  pub item-read : {r : Reading} → (length s ≡ 0 → ⊥) → readOf s ≡ r → itemOf at s ≡ itemRead at s r
+  pub item-read : {r : Reading} → (length s ≡ 0 → ⊥) → readIn mode s ≡ r → itemOf mode at s ≡ itemRead at s r
   unfolding itemOf
   item-read h e = rw (ne-eqb _ _ h, e)
 
@@ -85,8 +88,9 @@ pub record Lies (at : ℕ) (s : List ℕ) (l : Line) : Type 0 where
   pub some : 1 ≤ l .len
   pub within : l .len ≤ length s
 
-pub line-lies : {at : ℕ} {s : List ℕ} {l : Line} → ItemFor at s (item.Telegram l) → Lies at s l
-line-lies {at} {s} (of-telegram {t} {n} e) =
+pub line-lies : {mode : Mode} {at : ℕ} {s : List ℕ} {l : Line} → ItemFor mode at s (item.Telegram l) → Lies at s l
+line-lies {mode} {at} {s} (of-telegram {t} {n} q) =
+    let e = mode-alike mode s q in
     let p = line-place at s t n in
     record {
       place = p .0;
@@ -185,20 +189,23 @@ module _ (at : ℕ) (s : List ℕ) (low : at < 10000) (byte : Bytes s) where
   telegram-fits e (sd2 h d l k (code-known fc g q (content-whole f a b))) = data-fits _ _ e
   telegram-fits e (sd3 h d (code-known fc g q (content-whole f a b))) = data-fits _ _ e
 
-  pub line-fits : {l : Line} → ItemFor at s (item.Telegram l) → Fits l
-  line-fits (of-telegram e) = telegram-fits e (reason s e)
+  read-fits : (mode : Mode) {t : Telegram} {n : ℕ} → readIn mode s ≡ whole t n → Fits (lineAt at s t n)
+  read-fits mode q = let e = mode-alike mode s q in telegram-fits e (reason s e)
+
+  pub line-fits : {mode : Mode} {l : Line} → ItemFor mode at s (item.Telegram l) → Fits l
+  line-fits {mode} (of-telegram e) = read-fits mode e
 
   -- an item fits a line of 80 bytes
-  pub item-short : {x : Item} → ItemFor at s x → length (itemText x) ≤ 80
+  pub item-short : {mode : Mode} {x : Item} → ItemFor mode at s x → length (itemText x) ≤ 80
   item-short (at-end h) = omega (arith, end-length ending.done at, four-digits at low)
-  item-short (of-telegram e) = omega (arith, telegram-fits e (reason s e) .short)
+  item-short {mode} (of-telegram e) = omega (arith, read-fits mode e .short)
   item-short (of-incomplete h e) = omega (arith, end-length ending.incomplete at, four-digits at low)
-  item-short (of-refused {k} h e) =
-      omega (arith, end-length (ending.refused k) at, four-digits at low, small-length k (omega (arith, refused-numbered s e)))
+  item-short {mode} (of-refused {k} h e) =
+      omega (arith, end-length (ending.refused k) at, four-digits at low, four-digits k (omega (arith, mode-numbered mode s e)))
 
   -- the last line has 17 bytes where nothing is left, and no more than a byte that is left may take
-  pub last-length : {e : End} {p : ℕ} → ItemFor at s (item.Last e p) → length (endOf (shownEnd e) p) ≤ 58 * length s + 17
+  pub last-length : {mode : Mode} {e : End} {p : ℕ} → ItemFor mode at s (item.Last e p) → length (endOf (shownEnd e) p) ≤ 58 * length s + 17
   last-length (at-end h) = omega (arith, end-length ending.done at, four-digits at low)
   last-length (of-incomplete h e) = omega (arith, end-length ending.incomplete at, four-digits at low)
-  last-length (of-refused {k} h e) =
-      omega (arith, end-length (ending.refused k) at, four-digits at low, small-length k (omega (arith, refused-numbered s e)))
+  last-length {mode} (of-refused {k} h e) =
+      omega (arith, end-length (ending.refused k) at, four-digits at low, four-digits k (omega (arith, mode-numbered mode s e)))

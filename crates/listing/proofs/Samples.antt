@@ -11,13 +11,15 @@ use Rattle.codes.specs.RequestTypes.{requestTypeOf}
 use Rattle.codes.specs.Responses.{stateOf, statusOf}
 use Rattle.telegram.specs.Reading.{headerAt, sapsAt, readOf}
 use Rattle.telegram.specs.Stream.{streamFrom, streamOf}
+use Rattle.telegram_strict.specs.declared.strict.Mode.the-variants.{Default, Strict}
+use Rattle.telegram_strict.specs.Strict.{pastLengths, startOf, strictOf}
 use Rattle.text.specs.Begins.{begins}
 use Rattle.text.specs.Decimal.{digits, decimalOf, isDigit, digitsIn, numberAt}
 use Rattle.text.specs.Quoted.{bytesOf}
 use Rattle.text.specs.declared.decimal.Number.the-variants.{Is}
 use Rattle.text.proofs.ReadingLaws.{number-written}
 use Rattle.listing_lines.specs.Lines.{placeOf, headerOf, contentOf, lineOf, endOf}
-use Rattle.listing.specs.Listing.{streamText, bytesLine, listingOf, outputOf}
+use Rattle.listing.specs.Listing.{streamText, bytesLine, listingIn, listingOf, outputOf}
 use Rattle.listing.proofs.AnswerLaws.{output-long}
 
 -- an input, and its listing as quoted
@@ -54,10 +56,20 @@ pub record ListingSamples : Type 0 where
   pub wholeBytes : Lists
       (0xDC ∷ 0xFF ∷ 0x80 ∷ [])
       (bytesOf "bytes=3\nat=0 kind=token len=3 da=255 sa=128 dsap=- ssap=- fc=- pdu=-\nend=done at=3\n")
+  -- in strict mode the list ends at the first sloppy telegram; document 01's goes on
+  pub strictFourth : listingIn Strict
+      (0xE5 ∷ 0x68 ∷ 0x04 ∷ 0x04 ∷ 0x00 ∷ 0x00 ∷ 0x00 ∷ 0x00 ∷ 0x00 ∷ 0x00 ∷ 0x16 ∷ [])
+      ≡ bytesOf "bytes=11\nat=0 kind=ack len=1 da=- sa=- dsap=- ssap=- fc=- pdu=-\nend=refused-25 at=1\n"
+  pub strictLength : listingIn Strict
+      (0xE5 ∷ 0x68 ∷ 0x03 ∷ 0x03 ∷ 0x68 ∷ 0x00 ∷ 0x00 ∷ 0x00 ∷ 0x00 ∷ 0x16 ∷ [])
+      ≡ bytesOf "bytes=10\nat=0 kind=ack len=1 da=- sa=- dsap=- ssap=- fc=- pdu=-\nend=refused-24 at=1\n"
+  pub sloppyListed : Lists
+      (0x68 ∷ 0x03 ∷ 0x03 ∷ 0x00 ∷ 0x00 ∷ 0x00 ∷ 0x00 ∷ 0x00 ∷ 0x16 ∷ [])
+      (bytesOf "bytes=9\nat=0 kind=data len=9 da=0 sa=0 dsap=- ssap=- fc=0 pdu=0\nend=done at=9\n")
   pub aboveTheLimit : outputOf (replicate 4097 0xE5) ≡ bytesOf "refused=22\n"
 
 pub listing-samples : ListingSamples
-unfolding sumOf checksumOf functionCodeOf requestTypeOf stateOf statusOf headerAt sapsAt readOf digits decimalOf placeOf headerOf contentOf lineOf endOf streamFrom streamText bytesLine listingOf
+unfolding sumOf checksumOf functionCodeOf requestTypeOf stateOf statusOf headerAt sapsAt readOf digits decimalOf placeOf headerOf contentOf lineOf endOf streamFrom streamText bytesLine listingIn pastLengths startOf strictOf
 listing-samples =
     record {
       document01 = refl;
@@ -68,17 +80,20 @@ listing-samples =
       order = refl;
       bit7 = refl;
       wholeBytes = refl;
-      aboveTheLimit = output-long (replicate 4097 0xE5) (rw (length-replicate {A = ℕ} 4097 0xE5) (omega arith));
+      strictFourth = refl;
+      strictLength = refl;
+      sloppyListed = refl;
+      aboveTheLimit = output-long Default (replicate 4097 0xE5) (rw (length-replicate {A = ℕ} 4097 0xE5) (omega arith));
     }
 
 -- Every listing begins with `bytes=`, and the number that stands there is the input's length.
 pub bytes-named : (input : List ℕ) → begins (bytesOf "bytes=") (listingOf input) ≡ true
-unfolding begins listingOf bytesLine
+unfolding begins listingIn bytesLine
 bytes-named input = refl
 
 pub bytes-told : (input : List ℕ) (limit : ℕ) → length input ≤ limit
     → numberAt (listingOf input) 6 limit ≡ Is (length input) (6 + length (decimalOf (length input)))
-unfolding listingOf bytesLine digitsIn isDigit
+unfolding listingIn bytesLine digitsIn isDigit
 bytes-told input limit h =
     let rest = streamText input (streamOf input) in
     number-written (listingOf input) 6 (length input) limit (bytesOf "\n" ++ rest)

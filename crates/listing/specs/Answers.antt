@@ -10,7 +10,9 @@ use Rattle.ground.specs.Refusals.{numberOf, OrRefused, gives, refused}
 use Rattle.text.specs.Placed.{laid}
 use Rattle.listing.specs.declared.whole.Listed.{Listed}
 use Rattle.listing.specs.declared.whole.Listed.the-variants.{Text, Refused}
-use Rattle.listing.specs.Listing.{listingOf}
+use Rattle.telegram_strict.specs.declared.strict.Mode.{Mode}
+use Rattle.telegram_strict.specs.declared.strict.Mode.the-variants.{Default}
+use Rattle.listing.specs.Listing.{listingIn}
 
 -- an answer as the length of the text, or document 01's number
 abbrev pub shownListed : Listed → OrRefused ℕ
@@ -26,9 +28,13 @@ textIn (Refused refusal) buffer = shownPart (record { start = 0; len = 0 }) buff
 unfoldable pub printedOf : List ℕ → ℕ → OrRefused ℕ
 printedOf text room = if (leb (length text) room) (gives (length text)) (refused 10)
 
--- `list`: "22: lister input above 4,096 bytes", else its listing is printed
-unfoldable pub listOf : List ℕ → ℕ → OrRefused ℕ
-listOf input room = if (ltb 4096 (length input)) (refused 22) (printedOf (listingOf input) room)
+-- `list_in`: "22: lister input above 4,096 bytes", else its listing is printed
+unfoldable pub listIn : Mode → List ℕ → ℕ → OrRefused ℕ
+listIn mode input room = if (ltb 4096 (length input)) (refused 22) (printedOf (listingIn mode input) room)
+
+-- `list`: the same in document 01's mode
+abbrev pub listOf : List ℕ → ℕ → OrRefused ℕ
+listOf input room = listIn Default input room
 
 -- a text that was printed stands at the front of the buffer, and the bytes past it stay; a refusal leaves all of them
 abbrev pub leftBy : List ℕ → List ℕ → OrRefused ℕ → List ℕ

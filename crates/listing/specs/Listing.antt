@@ -1,10 +1,14 @@
--- Document 01, "The lister": the whole text, which is that of the input's stream. Read `listingOf` and `outputOf`.
+-- Document 01, "The lister": the whole text, which is that of the input's stream. Read `listingOf` and `outputOf`; in strict mode (request 2026-05) the
+-- same lines are those of the strict stream: `listingIn` and `outputIn`.
 use mathlib.Core.List.{List, [], _∷_, _++_}
 use Prim.Native.Nat.{ℕ, _+_, _*_}
 use lib.Dec.{ltb}
 use lib.ListN.{length, drop}
 use Rattle.ground.specs.Pick.{if}
-use Rattle.telegram.specs.Stream.{Event, Stream, streamOf}
+use Rattle.telegram.specs.Stream.{Event, Stream, streamBy}
+use Rattle.telegram_strict.specs.Strict.{readIn}
+use Rattle.telegram_strict.specs.declared.strict.Mode.{Mode}
+use Rattle.telegram_strict.specs.declared.strict.Mode.the-variants.{Default}
 use Rattle.text.specs.Decimal.{decimalOf}
 use Rattle.text.specs.Quoted.{bytesOf}
 use Rattle.listing_lines.specs.declared.line.Line.{Line}
@@ -28,17 +32,25 @@ streamText input stream = linesOf input (stream .telegrams) ++ endOf (stream .en
 unfoldable pub bytesLine : List ℕ → List ℕ
 bytesLine input = (bytesOf "bytes=" ++ decimalOf (length input)) ++ bytesOf "\n"
 
--- "prints `bytes`, a line per telegram", and the end
-unfoldable pub listingOf : List ℕ → List ℕ
-listingOf input = bytesLine input ++ streamText input (streamOf input)
+-- "prints `bytes`, a line per telegram", and the end, as a mode reads the input
+unfoldable pub listingIn : Mode → List ℕ → List ℕ
+listingIn mode input = bytesLine input ++ streamText input (streamBy (readIn mode) input)
+
+-- document 01's
+abbrev pub listingOf : List ℕ → List ℕ
+listingOf input = listingIn Default input
 
 -- "Refusal 22 prints `refused=22` alone"
 abbrev pub refusedLine : List ℕ
 refusedLine = bytesOf "refused=22\n"
 
 -- what the lister prints; "lister input above 4,096 bytes: 22"
-unfoldable pub outputOf : List ℕ → List ℕ
-outputOf input = if (ltb 4096 (length input)) refusedLine (listingOf input)
+unfoldable pub outputIn : Mode → List ℕ → List ℕ
+outputIn mode input = if (ltb 4096 (length input)) refusedLine (listingIn mode input)
+
+-- document 01's
+abbrev pub outputOf : List ℕ → List ℕ
+outputOf input = outputIn Default input
 
 -- room for every text: 58 bytes for each of 4,096 short confirmations, 11 for the first line and 17 for the last
 abbrev pub listingRoom : ℕ

@@ -11,6 +11,8 @@ use telegram::Deserialized;
 use telegram::SapOption;
 use telegram::Telegram;
 use telegram::TokenTelegram;
+use telegram_strict::Mode;
+use telegram_strict::deserialize_in;
 ghost use mathlib.Core.Path.{_≡_};
 ghost use mathlib.Core.List.{[]};
 ghost use Prim.Native.Nat.{_≤_, _<_};
@@ -118,13 +120,13 @@ fn line_at(at: usize, bytes: &[u8], telegram: Telegram, len: usize) -> Line
 }
 
 // The bytes are the input from a place on.
-fn item_of(at: usize, bytes: &[u8]) -> Item
-    ensures { λ r. ⌜ r ≡ itemOf at (now (bytes .entry)) ⌝ }
+fn item_of(mode: Mode, at: usize, bytes: &[u8]) -> Item
+    ensures { λ r. ⌜ r ≡ itemOf mode at (now (bytes .entry)) ⌝ }
 {
     if bytes.len() == 0 {
         return Item::Last(End::Done, at);
     }
-    let found = Telegram::deserialize(bytes);
+    let found = deserialize_in(mode, bytes);
     match found {
         Deserialized::Telegram(telegram, len) => Item::Telegram(line_at(at, bytes, telegram, len)),
         Deserialized::Incomplete => Item::Last(End::Incomplete, at),
@@ -132,9 +134,9 @@ fn item_of(at: usize, bytes: &[u8]) -> Item
     }
 }
 
-pub(crate) fn item_at(input: &[u8], at: usize) -> Item
+pub(crate) fn item_at(mode: Mode, input: &[u8], at: usize) -> Item
     requires { ⌜ at ≤ length (now input) ⌝ }
-    ensures { λ r. ⌜ r ≡ itemOf at (drop at (now (input .entry))) ⌝ }
+    ensures { λ r. ⌜ r ≡ itemOf mode at (drop at (now (input .entry))) ⌝ }
 {
-    item_of(at, &input[at..])
+    item_of(mode, at, &input[at..])
 }

@@ -1,6 +1,7 @@
 -- "These bytes begin with this telegram", `Begins`: a telegram's picture as a relation, which knows nothing of how a reader goes about it,
--- under the rules of the standard (`standard`) and the wider ones of document 01 (`document01`). What is said of the standard here is what people
--- of the trade know of it; its text is not at hand. Points.antt names each point in which document 01 is wider.
+-- under the rules of the standard (`standard`), the wider ones of document 01 (`document01`) and those between the two of strict mode (`strict`).
+-- What is said of the standard here is what people of the trade know of it; its text is not at hand. Points.antt names each point in which
+-- document 01 is wider.
 use Prim.Native.Nat.{ℕ, _+_, _<_, _≤_}
 use mathlib.Core.List.{List, [], _∷_, _++_}
 use mathlib.Core.Path.{_≡_}
@@ -53,6 +54,18 @@ document01 =
     record {
       lengthMayBe = λ l. 3 ≤ l;
       fourthMayBe = λ b. Unit;
+      codeMayBe = CodeRead;
+      sapMayBe = λ b. Unit;
+      sourceMayBe = λ a. Unit;
+      tokenMayBe = λ a. Unit;
+    }
+
+-- Strict mode (request 2026-05): "the fourth byte must be 68, and L must lie in 4 to 249, as the standard has it"; the rest as in document 01.
+abbrev pub strict : Rules
+strict =
+    record {
+      lengthMayBe = λ l. (4 ≤ l) × (l ≤ 249);
+      fourthMayBe = λ b. b ≡ SD2;
       codeMayBe = CodeRead;
       sapMayBe = λ b. Unit;
       sourceMayBe = λ a. Unit;

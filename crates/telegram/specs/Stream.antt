@@ -1,5 +1,6 @@
 -- Document 01, "The lister", without its limit and its text: the telegrams of a byte string, each with its place and its length, then how the
--- string ends and where. Read `streamOf`. `StreamIs` says the same without a count of steps (stream-exactly of proofs/StreamLaws.antt).
+-- string ends and where, as a reader reads them. Read `streamBy`, and `streamOf`, which is document 01's. `StreamIs` says the same without a count
+-- of steps (stream-exactly of proofs/StreamLaws.antt).
 use Prim.Native.Nat.{ℕ, zero, suc, _+_, _<_}
 use mathlib.Core.List.{List, [], _∷_}
 use mathlib.Core.Path.{_≡_}
@@ -43,17 +44,21 @@ streamRead rest at s reading.incomplete = endsAt at incomplete
 streamRead rest at s (reading.refused number) = endsAt at (refused number)
 
 -- the stream from a place on, in so many steps: "or, done, the input's end"
-unfoldable pub streamFrom : ℕ → ℕ → List ℕ → Stream
-streamFrom zero at s = endsAt at done
-streamFrom (suc steps) at s = if (eqb (length s) 0) (endsAt at done) (streamRead (streamFrom steps) at s (readOf s))
+unfoldable pub streamFrom : (List ℕ → Reading) → ℕ → ℕ → List ℕ → Stream
+streamFrom read zero at s = endsAt at done
+streamFrom read (suc steps) at s = if (eqb (length s) 0) (endsAt at done) (streamRead (streamFrom read steps) at s (read s))
 
 -- every telegram has a byte, so that as many steps as there are bytes are enough
-abbrev pub streamAt : ℕ → List ℕ → Stream
-streamAt at s = streamFrom (length s) at s
+abbrev pub streamAt : (List ℕ → Reading) → ℕ → List ℕ → Stream
+streamAt read at s = streamFrom read (length s) at s
 
--- the stream of a byte string
+-- the stream of a byte string, as a reader reads it
+abbrev pub streamBy : (List ℕ → Reading) → List ℕ → Stream
+streamBy read s = streamAt read 0 s
+
+-- by document 01's reader
 abbrev pub streamOf : List ℕ → Stream
-streamOf s = streamAt 0 s
+streamOf s = streamBy readOf s
 
 -- how many bytes the telegrams have in all
 abbrev pub bytesIn : List Event → ℕ
@@ -61,20 +66,20 @@ bytesIn [] = 0
 bytesIn (event ∷ more) = event .len + bytesIn more
 
 -- Telegram behind telegram of the input s, from a place up to another: each is what the reader finds at its place.
-pub data Chain (s : List ℕ) : ℕ → List Event → ℕ → Type 0 where
-  noMore : {at : ℕ} → Chain s at [] at
+pub data Chain (read : List ℕ → Reading) (s : List ℕ) : ℕ → List Event → ℕ → Type 0 where
+  noMore : {at : ℕ} → Chain read s at [] at
   oneMore : {at n end : ℕ} {t : Telegram} {more : List Event}
-      → readOf (drop at s) ≡ reading.whole t n
-      → Chain s (at + n) more end
-      → Chain s at (record { at = at; telegram = t; len = n } ∷ more) end
+      → read (drop at s) ≡ reading.whole t n
+      → Chain read s (at + n) more end
+      → Chain read s at (record { at = at; telegram = t; len = n } ∷ more) end
 
 -- The input s ends so at a place: nothing is left there, or the reader finds no telegram in what is left.
-pub data Ends (s : List ℕ) (at : ℕ) : Ending → Type 0 where
-  atEnd : at ≡ length s → Ends s at done
-  cut : at < length s → readOf (drop at s) ≡ reading.incomplete → Ends s at incomplete
-  stopped : {number : ℕ} → at < length s → readOf (drop at s) ≡ reading.refused number → Ends s at (refused number)
+pub data Ends (read : List ℕ → Reading) (s : List ℕ) (at : ℕ) : Ending → Type 0 where
+  atEnd : at ≡ length s → Ends read s at done
+  cut : at < length s → read (drop at s) ≡ reading.incomplete → Ends read s at incomplete
+  stopped : {number : ℕ} → at < length s → read (drop at s) ≡ reading.refused number → Ends read s at (refused number)
 
 -- The stream of s, from a place on.
-pub record StreamIs (s : List ℕ) (from : ℕ) (stream : Stream) : Type 0 where
-  pub telegrams : Chain s from (stream .telegrams) (stream .at)
-  pub ends : Ends s (stream .at) (stream .ending)
+pub record StreamIs (read : List ℕ → Reading) (s : List ℕ) (from : ℕ) (stream : Stream) : Type 0 where
+  pub telegrams : Chain read s from (stream .telegrams) (stream .at)
+  pub ends : Ends read s (stream .at) (stream .ending)

@@ -8,7 +8,7 @@ returns : tie.Need-returns
 returns c =
     let made = c .before .before in
     let known = made .before .before .before in
-    output-shown _ (λ i. known .shared-slice-known .given i .fits) (known .before .pre) (made .output .ensures)
+    output-shown _ _ (λ i. known .shared-slice-known .given i .fits) (known .before .pre) (made .output .ensures)
 
 pub put-output-spec : {M : Type 1} → statement M
 put-output-spec = tie.close (tie.spec (λ c κs. search needs) (λ c. search needs) returns)

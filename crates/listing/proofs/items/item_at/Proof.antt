@@ -15,7 +15,7 @@ returns c =
     let start = c .before .before .before in
     let input = now (start .args .input) in
     let at = start .args .at in
-    c .item-of .ensures ∙ ap (itemOf at) (take-all (length input - at) (drop at input) (simp length-drop (omega arith)))
+    c .item-of .ensures ∙ ap (itemOf (start .args .mode) at) (take-all (length input - at) (drop at input) (simp length-drop (omega arith)))
 
 pub item-at-spec : {M : Type 1} → statement M
 item-at-spec =

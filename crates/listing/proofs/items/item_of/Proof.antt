@@ -3,38 +3,39 @@ use mathlib.Core.Path.{sym, ap, _∙_}
 use Prim.Native.Nat.{ℕ}
 use Rattle.listing_lines.specs.declared.line.End.the-variants.{Refused}
 use Rattle.listing_lines.specs.declared.line.Item.the-variants.{Telegram, Last}
-use Rattle.telegram.proofs.ReadingLaws.{told-whole, told-incomplete, told-refused}
+use Rattle.telegram.specs.Reading.{shownReading}
+use Rattle.telegram_strict.proofs.ModeLaws.{mode-alike}
 use Rattle.listing.proofs.ItemLaws.{item-done, item-read}
 use borrow.Author.Needs.{needs}
 use Rattle.listing.proofs.items.item_of.Statement.{statement}
 use Rattle.listing.proofs.items.item_of.Tie as tie
 
 at-end : tie.Need-returns
-at-end c = sym (item-done _ _ (c .if1 .taken))
+at-end c = sym (item-done _ _ _ (c .if1 .taken))
 
 line-at-requires : tie.Need-line-at-requires
 line-at-requires c κs =
     let arm = c .before in
-    told-whole _ _ (arm .before .before .deserialize .ensures) (arm .found .given .1)
+    mode-alike (arm .before .before .before .before .before .args .mode) _ (sym (arm .before .before .deserialize-in .ensures) ∙ ap shownReading (arm .found .given .1))
 
 of-telegram : tie.Need-returns-2
 of-telegram c =
     let arm = c .before .before in
     let read = arm .before .before in
     ap Telegram (c .line-at .ensures)
-    ∙ sym (item-read _ _ (read .before .if1 .left) (told-whole _ _ (read .deserialize .ensures) (arm .found .given .1)))
+    ∙ sym (item-read _ _ _ (read .before .if1 .left) (sym (read .deserialize-in .ensures) ∙ ap shownReading (arm .found .given .1)))
 
 of-incomplete : tie.Need-returns-3
 of-incomplete c =
     let read = c .before .before in
-    sym (item-read _ _ (read .before .if1 .left) (told-incomplete _ _ (read .deserialize .ensures) (c .enum-told .given .1)))
+    sym (item-read _ _ _ (read .before .if1 .left) (sym (read .deserialize-in .ensures) ∙ ap shownReading (c .enum-told .given .1)))
 
 of-refused : tie.Need-returns-4
 of-refused c =
     let arm = c .before .before in
     let read = arm .before .before in
     ap (λ (k : ℕ). Last (Refused k) (read .before .before .before .args .at)) (c .number .ensures)
-    ∙ sym (item-read _ _ (read .before .if1 .left) (told-refused _ _ (read .deserialize .ensures) (arm .found2 .given .1)))
+    ∙ sym (item-read _ _ _ (read .before .if1 .left) (sym (read .deserialize-in .ensures) ∙ ap shownReading (arm .found2 .given .1)))
 
 pub item-of-spec : {M : Type 1} → statement M
 item-of-spec =

@@ -13,10 +13,10 @@ use Rattle.listing.proofs.whole.lines_len.Statement.{statement}
 use Rattle.listing.proofs.whole.lines_len.Tie as tie
 
 abbrev Inv-loop : tie.InvT-loop
-Inv-loop input len₀ at₀ len at = Counted input len at
+Inv-loop mode input len₀ at₀ len at = Counted mode input len at
 
 abbrev μ-loop : tie.MeasureT-loop
-μ-loop input len₀ at₀ len at = length input - at
+μ-loop mode input len₀ at₀ len at = length input - at
 
 -- in the first arm the telegram ends within the input
 ended : (c : tie.After-struct-known Inv-loop μ-loop)
@@ -26,7 +26,7 @@ ended : (c : tie.After-struct-known Inv-loop μ-loop)
 ended c =
     let arm = c .before .before in
     let listed = arm .before .before .before in
-    ends-within _ _ (listed .before .loop .inv .within) (sym (listed .item-at .ensures) ∙ arm .item .given .1)
+    ends-within _ _ _ (listed .before .loop .inv .within) (sym (listed .item-at .ensures) ∙ arm .item .given .1)
 
 loop-holds : tie.Need-loop-holds Inv-loop μ-loop
 loop-holds c = counts
@@ -47,8 +47,8 @@ add-len c =
     let listed = c .before in
     let head = listed .before in
     let known = head .before in
-    let small = lines-small (now (known .before .args .input)) (λ i. known .shared-slice-known .given i .fits) (known .before .pre) in
-    let part = item-part (now (known .before .args .input)) (head .loop .at) in
+    let small = lines-small (known .before .args .mode) (now (known .before .args .input)) (λ i. known .shared-slice-known .given i .fits) (known .before .pre) in
+    let part = item-part (known .before .args .mode) (now (known .before .args .input)) (head .loop .at) in
     let long = c .item-len .ensures ∙ ap (λ x. length (itemText x)) (listed .item-at .ensures) in
     omega (arith, head .loop .inv .left, known .before .pre)
 

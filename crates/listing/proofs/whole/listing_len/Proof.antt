@@ -17,13 +17,13 @@ add-result-2 : tie.Need-add-result-2
 add-result-2 c =
     let start = c .before .before .before in
     let digits = four-digits (length (now (start .args .input))) (omega (arith, start .pre)) in
-    let lines = lines-small (now (start .args .input)) (λ i. c .before .before .shared-slice-known .given i .fits) (start .pre) in
+    let lines = lines-small (start .args .mode) (now (start .args .input)) (λ i. c .before .before .shared-slice-known .given i .fits) (start .pre) in
     omega (arith, c .lines-len .ensures, c .before .decimal-len .ensures, start .pre)
 
 returns : tie.Need-returns
 returns c =
     let start = c .before .before .before in
-    rw (listing-length (now (start .args .input)), ← c .before .decimal-len .ensures, ← c .lines-len .ensures)
+    rw (listing-length (start .args .mode) (now (start .args .input)), ← c .before .decimal-len .ensures, ← c .lines-len .ensures)
 
 pub listing-len-spec : {M : Type 1} → statement M
 listing-len-spec =

@@ -11,10 +11,10 @@ use Rattle.listing.proofs.whole.put_lines.Statement.{statement}
 use Rattle.listing.proofs.whole.put_lines.Tie as tie
 
 abbrev Inv-loop : tie.InvT-loop
-Inv-loop buf₀ to input next₀ at₀ buf next at = Progress buf₀ to input buf next at
+Inv-loop mode buf₀ to input next₀ at₀ buf next at = Progress mode buf₀ to input buf next at
 
 abbrev μ-loop : tie.MeasureT-loop
-μ-loop buf₀ to input next₀ at₀ buf next at = length input - at
+μ-loop mode buf₀ to input next₀ at₀ buf next at = length input - at
 
 -- in the first arm the telegram ends within the input
 ended : (c : tie.After-struct-known Inv-loop μ-loop)
@@ -24,7 +24,7 @@ ended : (c : tie.After-struct-known Inv-loop μ-loop)
 ended c =
     let arm = c .before .before in
     let head = arm .before .before .before .before .before .before .before in
-    ends-within _ _ (head .loop .inv .within) (sym (arm .before .before .before .before .before .before .item-at .ensures) ∙ arm .item .given .1)
+    ends-within _ _ _ (head .loop .inv .within) (sym (arm .before .before .before .before .before .before .item-at .ensures) ∙ arm .item .given .1)
 
 loop-holds : tie.Need-loop-holds Inv-loop μ-loop
 loop-holds c = starts (c .before .before .pre)

@@ -1,7 +1,7 @@
 -- `put_listing` meets its contract: the first line and the lines are placed one behind the other.
 use native.Mathlib.Omega.{arith}
 use Rattle.text.proofs.PlacedLaws.{then}
-use Rattle.listing.specs.Listing.{bytesLine, listingOf}
+use Rattle.listing.specs.Listing.{bytesLine, listingIn}
 use borrow.Author.Needs.{needs}
 use Rattle.listing.proofs.whole.put_listing.Statement.{statement}
 use Rattle.listing.proofs.whole.put_listing.Tie as tie
@@ -10,7 +10,7 @@ put-lines-requires : tie.Need-put-lines-requires
 put-lines-requires c κs = omega (arith, c .before .before .before .put-byte .ensures .place, c .before .before .before .put-byte .kept)
 
 returns : tie.Need-returns
-unfolding listingOf bytesLine
+unfolding listingIn bytesLine
 returns c =
     let lines = c .before .before in
     let feed = lines .before .before .before .before in

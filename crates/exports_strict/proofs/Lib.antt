@@ -1,0 +1,2 @@
+-- no second outcome fits the promise of any public call
+pub mod Determined

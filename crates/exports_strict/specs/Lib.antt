@@ -1,0 +1,2 @@
+-- Read `koyReadStrict`: it is the promise of the call so named.
+pub mod Calls

@@ -133,7 +133,7 @@ use Rattle.telegram_bytes.specs.Serialized.{shownSerialized}
 use Rattle.telegram_strict.proofs.strict.deserialize_in as deserializeIn
 use Rattle.telegram_strict.proofs.strict.deserialize_strict as deserializeStrict
 use Rattle.telegram_strict.proofs.strict.strict_start as strictStart
-use Rattle.telegram_strict.specs.Strict.{strictOf}
+use Rattle.telegram_strict.specs.Strict.{shownIn, strictOf}
 use Rattle.telegram_tx.proofs.tx.send_coded_telegram as sendCodedTelegram
 use Rattle.telegram_tx.proofs.tx.send_data_telegram as sendDataTelegram
 use Rattle.telegram_tx.proofs.tx.send_fdl_status_request as sendFdlStatusRequest
@@ -160,12 +160,12 @@ pub record EveryRefusal : Type 2 where
   pub deserialize :
       RefusedStays deserialize.ended deserialize.Reads.Learnt (λ κs x. IsRefused reading.refused (reading.shownReading x))
       (λ κs e. e)
-  pub strictStart : RefusedStays strictStart.ended strictStart.Reads.Learnt (λ κs x. IsNumber (shown x)) (λ κs e. e)
+  pub strictStart : RefusedStays strictStart.ended strictStart.Reads.Learnt (λ κs x. IsNumber x) (λ κs e. e)
   pub deserializeStrict :
-      RefusedStays deserializeStrict.ended deserializeStrict.Reads.Learnt (λ κs x. IsRefused reading.refused (reading.shownReading x))
+      RefusedStays deserializeStrict.ended deserializeStrict.Reads.Learnt (λ κs x. IsRefused reading.refused (shownIn x))
       (λ κs e. e)
   pub deserializeIn :
-      RefusedStays deserializeIn.ended deserializeIn.Reads.Learnt (λ κs x. IsRefused reading.refused (reading.shownReading x))
+      RefusedStays deserializeIn.ended deserializeIn.Reads.Learnt (λ κs x. IsRefused reading.refused (shownIn x))
       (λ κs e. e)
   pub frameOf : RefusedStays frameOf.ended frameOf.Reads.Learnt (λ κs x. IsRefused frameRefused (shownFrame x)) (λ κs e. e)
   pub serialize :

@@ -198,8 +198,6 @@ small refusal.Tries = (lit≤ tt, lit≤ tt)
 small refusal.SettingsForm = (lit≤ tt, lit≤ tt)
 small refusal.NoReplyOwed = (lit≤ tt, lit≤ tt)
 small refusal.InputTooLong = (lit≤ tt, lit≤ tt)
-small refusal.LengthNotStandard = (lit≤ tt, lit≤ tt)
-small refusal.FourthByte = (lit≤ tt, lit≤ tt)
 
 pub every-refusal-shows : EveryRefusalShows
 every-refusal-shows =

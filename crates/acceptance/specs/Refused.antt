@@ -13,7 +13,7 @@ pub record IsRefused {N A : Type 0} (refused : N → A) (answer : A) : Type 0 wh
   pub number : N
   pub is : answer ≡ refused number
 
--- an answer that is a number: document 01's and the later requests' are below 100; 0 is done, and a code from 100 on is no refusal
+-- an answer that is a number: those of document 01 and of later requests are below 100; 0 is done, and a code from 100 on is no refusal
 abbrev pub IsNumber : ℕ → Type 0
 IsNumber n = (1 ≤ n) × (n < 100)
 

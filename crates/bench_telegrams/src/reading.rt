@@ -35,6 +35,7 @@ use telegram::Deserialized;
 use telegram::SapOption;
 use telegram::Telegram;
 use telegram::TokenTelegram;
+use telegram_strict::DeserializedIn;
 use telegram_strict::Mode;
 use telegram_strict::deserialize_in;
 
@@ -59,9 +60,9 @@ fn read_in(mode: Mode, input: &Input, at: usize, out: &mut Out, to: usize) -> us
 
 fn put_read(out: &mut Out, to: usize, mode: Mode, bytes: &[u8]) -> usize {
     match deserialize_in(mode, bytes) {
-        Deserialized::Telegram(telegram, total) => put_telegram(out, to, telegram, total, bytes),
-        Deserialized::Incomplete => put_text(out, to, b"incomplete"),
-        Deserialized::Refused(refusal) => put_refused(out, to, refusal.number()),
+        DeserializedIn::Telegram(telegram, total) => put_telegram(out, to, telegram, total, bytes),
+        DeserializedIn::Incomplete => put_text(out, to, b"incomplete"),
+        DeserializedIn::Refused(number) => put_refused(out, to, number),
     }
 }
 

@@ -8,7 +8,7 @@ use lib.ListN.{length, take, drop, length-drop, take-append-drop}
 use Rattle.ground.specs.Refusals.{numberOf}
 use Rattle.ground.specs.declared.part.Part.{Part}
 use Rattle.ground.specs.declared.refusal.Refusal.{Refusal}
-use Rattle.ground.specs.declared.refusal.Refusal.the-variants.{UnknownStart, LengthsDiffer, LengthTooSmall, FunctionCode, SapMissing, Checksum, EndDelimiter, AddressTooLarge, TooLong, NoRoom, NotAStation, BlockCutOff, BlockReserved, BlockLengthZero, CycleInactive, OrderLength, OrderPending, LinkAddresses, Tries, SettingsForm, NoReplyOwed, InputTooLong, LengthNotStandard, FourthByte}
+use Rattle.ground.specs.declared.refusal.Refusal.the-variants.{UnknownStart, LengthsDiffer, LengthTooSmall, FunctionCode, SapMissing, Checksum, EndDelimiter, AddressTooLarge, TooLong, NoRoom, NotAStation, BlockCutOff, BlockReserved, BlockLengthZero, CycleInactive, OrderLength, OrderPending, LinkAddresses, Tries, SettingsForm, NoReplyOwed, InputTooLong}
 use Rattle.initiator.specs.Calls as initiator
 use Rattle.initiator.specs.Calls.{Outcome}
 use Rattle.initiator.specs.Heads.{wholeOf, shownOn, submitOn, silenceOn, hearOn}
@@ -63,8 +63,6 @@ refusal-told Tries = refl
 refusal-told SettingsForm = refl
 refusal-told NoReplyOwed = refl
 refusal-told InputTooLong = refl
-refusal-told LengthNotStandard = refl
-refusal-told FourthByte = refl
 
 -- The bytes that a call was given count only where it was refused.
 module _ {End Tale : Type 0} (across : Crossing End Tale) (told-never-refused : (tale : Tale) → isRefusal (across .code tale) ≡ false) (s₁ s t : List ℕ) (w : Turn End Tale)

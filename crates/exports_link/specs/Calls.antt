@@ -18,7 +18,7 @@ pub record NewCall : Type 0 where
   pub code : ℕ
   pub state : List ℕ
 
--- 0 is no refusal, nor is a code from 100 on; document 01's numbers and those of later requests are below that
+-- 0 is no refusal, nor is a code from 100 on; document 01's numbers are 1 to 22
 abbrev pub isRefusal : ℕ → Bool
 isRefusal code = if (ltb 0 code) (ltb code 100) false
 

@@ -3,7 +3,6 @@
 ghost use mathlib.Core.Path.{_≡_};
 ghost use Rattle.exports_strict.specs.Calls.{koyReadStrict};
 use exports_telegrams::reading::koy_read;
-use ground::Answer;
 use telegram_strict::strict_start;
 
 // The start is judged here; the rest is the plain call's.
@@ -11,8 +10,9 @@ use telegram_strict::strict_start;
 pub extern "C" fn koy_read_strict(bytes: &[u8], told: &mut [usize; 9]) -> u8
     ensures { λ r. ⌜ record { code = r; told = now (told .exit) } ≡ koyReadStrict (now (bytes .entry)) (now (told .entry)) ⌝ }
 {
-    match strict_start(bytes) {
-        Answer::Done => koy_read(bytes, told),
-        Answer::Refused(refusal) => refusal.number(),
+    let number = strict_start(bytes);
+    if number != 0 {
+        return number;
     }
+    koy_read(bytes, told)
 }

@@ -3,7 +3,7 @@
 use Prim.Native.Nat.{ℕ}
 use mathlib.Core.Path.{_≡_, ap, refl}
 use mathlib.Core.List.{List, [], _∷_}
-use Rattle.ground.proofs.Injective.{injective, zero-one}
+use Rattle.ground.proofs.Injective.{injective}
 use Rattle.ground.specs.Lookup.{lookup}
 use Rattle.ground.specs.Refusals.{numberOf, shown}
 use Rattle.ground.specs.declared.refusal.Answer.{Answer}
@@ -36,8 +36,6 @@ refusals =
     ∷ refusal.SettingsForm
     ∷ refusal.NoReplyOwed
     ∷ refusal.InputTooLong
-    ∷ refusal.LengthNotStandard
-    ∷ refusal.FourthByte
     ∷ []
 
 pub answerOf : ℕ → Answer
@@ -69,8 +67,6 @@ answer-again (Refused refusal.Tries) = refl
 answer-again (Refused refusal.SettingsForm) = refl
 answer-again (Refused refusal.NoReplyOwed) = refl
 answer-again (Refused refusal.InputTooLong) = refl
-answer-again (Refused refusal.LengthNotStandard) = refl
-answer-again (Refused refusal.FourthByte) = refl
 
 pub shown-injective : (a b : Answer) → shown a ≡ shown b → a ≡ b
 shown-injective = injective shown answerOf answer-again
@@ -88,7 +84,3 @@ refusal-again r = ap refusalIn (answer-again (Refused r))
 
 pub number-injective : (x y : Refusal) → numberOf x ≡ numberOf y → x ≡ y
 number-injective = injective numberOf refusalOf refusal-again
-
--- No refusal has the number 0, which is that of `Done`.
-pub number-some : (r : Refusal) → numberOf r ≡ 0 → ⊥
-number-some r e = let f = shown-injective (Refused r) Done e in zero-one (cc)

@@ -1,9 +1,9 @@
--- Document 01, "Refusal numbers", and the later requests': the number of each refusal, and when it is given.
+-- Document 01, "Refusal numbers": the number of each refusal, and when it is given.
 use Prim.Native.Nat.{ℕ}
 use Rattle.ground.specs.declared.refusal.Answer.{Answer}
 use Rattle.ground.specs.declared.refusal.Answer.the-variants.{Done, Refused}
 use Rattle.ground.specs.declared.refusal.Refusal.{Refusal}
-use Rattle.ground.specs.declared.refusal.Refusal.the-variants.{UnknownStart, LengthsDiffer, LengthTooSmall, FunctionCode, SapMissing, Checksum, EndDelimiter, AddressTooLarge, TooLong, NoRoom, NotAStation, BlockCutOff, BlockReserved, BlockLengthZero, CycleInactive, OrderLength, OrderPending, LinkAddresses, Tries, SettingsForm, NoReplyOwed, InputTooLong, LengthNotStandard, FourthByte}
+use Rattle.ground.specs.declared.refusal.Refusal.the-variants.{UnknownStart, LengthsDiffer, LengthTooSmall, FunctionCode, SapMissing, Checksum, EndDelimiter, AddressTooLarge, TooLong, NoRoom, NotAStation, BlockCutOff, BlockReserved, BlockLengthZero, CycleInactive, OrderLength, OrderPending, LinkAddresses, Tries, SettingsForm, NoReplyOwed, InputTooLong}
 
 abbrev pub numberOf : Refusal → ℕ
 -- reading: the first byte is no delimiter
@@ -50,10 +50,6 @@ numberOf SettingsForm = 20
 numberOf NoReplyOwed = 21
 -- lister input above 4,096 bytes
 numberOf InputTooLong = 22
--- strict reading: the length byte of an SD2 telegram is 3 or above 249
-numberOf LengthNotStandard = 24
--- strict reading: the fourth byte of an SD2 telegram is not 68
-numberOf FourthByte = 25
 
 -- an answer as its number: 0 where the call was done, else the number of its refusal
 abbrev pub shown : Answer → ℕ

@@ -26,8 +26,6 @@ pub enum Refusal {
     SettingsForm,
     NoReplyOwed,
     InputTooLong,
-    LengthNotStandard,
-    FourthByte,
 }
 
 impl Refusal {
@@ -57,8 +55,6 @@ impl Refusal {
             Refusal::SettingsForm => 20,
             Refusal::NoReplyOwed => 21,
             Refusal::InputTooLong => 22,
-            Refusal::LengthNotStandard => 24,
-            Refusal::FourthByte => 25,
         }
     }
 }

@@ -7,10 +7,10 @@ use listing_lines::Item;
 use listing_lines::Kind;
 use listing_lines::Line;
 use telegram::DataTelegram;
-use telegram::Deserialized;
 use telegram::SapOption;
 use telegram::Telegram;
 use telegram::TokenTelegram;
+use telegram_strict::DeserializedIn;
 use telegram_strict::Mode;
 use telegram_strict::deserialize_in;
 ghost use mathlib.Core.Path.{_≡_};
@@ -128,9 +128,9 @@ fn item_of(mode: Mode, at: usize, bytes: &[u8]) -> Item
     }
     let found = deserialize_in(mode, bytes);
     match found {
-        Deserialized::Telegram(telegram, len) => Item::Telegram(line_at(at, bytes, telegram, len)),
-        Deserialized::Incomplete => Item::Last(End::Incomplete, at),
-        Deserialized::Refused(refusal) => Item::Last(End::Refused(refusal.number()), at),
+        DeserializedIn::Telegram(t, len) => Item::Telegram(line_at(at, bytes, t, len)),
+        DeserializedIn::Incomplete => Item::Last(End::Incomplete, at),
+        DeserializedIn::Refused(number) => Item::Last(End::Refused(number), at),
     }
 }
 

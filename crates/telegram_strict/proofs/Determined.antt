@@ -1,9 +1,8 @@
 -- No second outcome fits the promise of a public call of `telegram_strict`: two outcomes that its promise allows are the same.
 use mathlib.Core.Path.{refl}
-use Rattle.ground.proofs.DeterminedLaws.{seen}
-use Rattle.ground.proofs.RefusalLaws.{shown-injective}
+use Rattle.ground.proofs.DeterminedLaws.{fixed, seen}
 use Rattle.ground.specs.Determined.{Determined}
-use Rattle.telegram.proofs.ReadingLaws.{shown-reading-injective}
+use Rattle.telegram_strict.proofs.ModeLaws.{shown-in-injective}
 use Rattle.telegram_strict.proofs.strict.deserialize_in as deserializeIn
 use Rattle.telegram_strict.proofs.strict.deserialize_strict as deserializeStrict
 use Rattle.telegram_strict.proofs.strict.strict_start as strictStart
@@ -16,7 +15,7 @@ pub record Calls : Type 0 where
 pub determined : Calls
 determined =
     record {
-      strictStart = seen (λ κs. shown-injective) (λ κs a u v. refl);
-      deserializeStrict = seen (λ κs. shown-reading-injective) (λ κs a u v. refl);
-      deserializeIn = seen (λ κs. shown-reading-injective) (λ κs a u v. refl);
+      strictStart = fixed (λ κs a u v. refl);
+      deserializeStrict = seen (λ κs. shown-in-injective) (λ κs a u v. refl);
+      deserializeIn = seen (λ κs. shown-in-injective) (λ κs a u v. refl);
     }

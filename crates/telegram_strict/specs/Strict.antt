@@ -8,9 +8,17 @@ use lib.ListN.{length}
 use Rattle.codes.specs.Delimiters.{SD2}
 use Rattle.ground.specs.Part.{byteAt}
 use Rattle.ground.specs.Pick.{if}
-use Rattle.telegram.specs.Reading.{Reading, refused, starts, readOf}
+use Rattle.telegram.specs.Reading.{Reading, whole, incomplete, refused, starts, readOf}
+use Rattle.telegram_strict.specs.declared.strict.DeserializedIn.{DeserializedIn}
+use Rattle.telegram_strict.specs.declared.strict.DeserializedIn.the-variants as deserialized
 use Rattle.telegram_strict.specs.declared.strict.Mode.{Mode}
 use Rattle.telegram_strict.specs.declared.strict.Mode.the-variants.{Default, Strict}
+
+-- what reading in a mode answers, which bears its refusal's number
+abbrev pub shownIn : DeserializedIn → Reading
+shownIn (deserialized.Telegram t n) = whole t n
+shownIn deserialized.Incomplete = incomplete
+shownIn (deserialized.Refused number) = refused number
 
 -- "The checks stand after refusals 2 and 3": six bytes of an SD2 telegram are there, its two length bytes agree, and L is not below 3
 unfoldable pub pastLengths : List ℕ → Bool

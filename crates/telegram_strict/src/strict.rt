@@ -1,19 +1,29 @@
 // Strict reading: a gate in front of `Telegram::deserialize`, which stays as it is. Promise: `startOf`, `strictOf` and `readIn` in
 // specs/Strict.antt.
 ghost use mathlib.Core.Path.{_≡_};
-ghost use Rattle.ground.specs.Refusals.{shown};
 ghost use Rattle.telegram.specs.Reading.{shownReading};
-ghost use Rattle.telegram_strict.specs.Strict.{pastLengths, readIn, startOf, strictOf};
+ghost use Rattle.telegram_strict.specs.Strict.{pastLengths, readIn, shownIn, startOf, strictOf};
 use codes::consts;
-use ground::Answer;
-use ground::Refusal;
 use telegram::Deserialized;
 use telegram::Telegram;
+
+// The refusals of strict mode alone, by their numbers. They are none of `ground::Refusal`, which is document 01's list: what goes by that, the order
+// link above all, is compiled as before.
+pub const LENGTH_NOT_STANDARD: u8 = 24;
+
+pub const FOURTH_BYTE: u8 = 25;
 
 // How bytes are read. The default is document 01's mode, which reads what the Rust reads; the order link keeps it.
 pub enum Mode {
     Default,
     Strict,
+}
+
+// What reading in a mode finds: a telegram with its total length, too few bytes to tell, or a refusal by its number.
+pub enum DeserializedIn {
+    Telegram(Telegram, usize),
+    Incomplete,
+    Refused(u8),
 }
 
 // Whether the checks of strict mode are come to: refusals 2 and 3 are behind them.
@@ -33,43 +43,55 @@ fn past_lengths(bytes: &[u8]) -> bool
     l >= 3
 }
 
-// The two checks of strict mode: L, then the fourth byte. `Done` where there is nothing against the start of these bytes, be it that they
-// begin with no SD2 telegram or that document 01 already refuses its lengths.
-pub fn strict_start(bytes: &[u8]) -> Answer
-    ensures { λ r. ⌜ shown r ≡ startOf (now (bytes .entry)) ⌝ }
+// The two checks of strict mode: L, then the fourth byte. 0 where there is nothing against the start of these bytes, be it that they begin with no
+// SD2 telegram or that document 01 already refuses its lengths.
+pub fn strict_start(bytes: &[u8]) -> u8
+    ensures { λ r. ⌜ r ≡ startOf (now (bytes .entry)) ⌝ }
 {
     if !past_lengths(bytes) {
-        return Answer::Done;
+        return 0;
     }
     let l = bytes[1];
     let fourth = bytes[3];
     if l < 4 {
-        return Answer::Refused(Refusal::LengthNotStandard);
+        return LENGTH_NOT_STANDARD;
     }
     if l > 249 {
-        return Answer::Refused(Refusal::LengthNotStandard);
+        return LENGTH_NOT_STANDARD;
     }
     if fourth != consts::SD2 {
-        return Answer::Refused(Refusal::FourthByte);
+        return FOURTH_BYTE;
     }
-    Answer::Done
+    0
+}
+
+// What the default reader found, a refusal by its number.
+fn by_number(found: Deserialized) -> DeserializedIn
+    ensures { λ r. ⌜ shownIn r ≡ shownReading found ⌝ }
+{
+    match found {
+        Deserialized::Telegram(telegram, total) => DeserializedIn::Telegram(telegram, total),
+        Deserialized::Incomplete => DeserializedIn::Incomplete,
+        Deserialized::Refused(refusal) => DeserializedIn::Refused(refusal.number()),
+    }
 }
 
 // The telegram that these bytes begin with, in strict mode.
-pub fn deserialize_strict(buffer: &[u8]) -> Deserialized
-    ensures { λ r. ⌜ shownReading r ≡ strictOf (now (buffer .entry)) ⌝ }
+pub fn deserialize_strict(buffer: &[u8]) -> DeserializedIn
+    ensures { λ r. ⌜ shownIn r ≡ strictOf (now (buffer .entry)) ⌝ }
 {
-    match strict_start(buffer) {
-        Answer::Done => Telegram::deserialize(buffer),
-        Answer::Refused(refusal) => Deserialized::Refused(refusal),
+    let number = strict_start(buffer);
+    if number != 0 {
+        return DeserializedIn::Refused(number);
     }
+    by_number(Telegram::deserialize(buffer))
 }
 
-pub fn deserialize_in(mode: Mode, buffer: &[u8]) -> Deserialized
-    ensures { λ r. ⌜ shownReading r ≡ readIn mode (now (buffer .entry)) ⌝ }
+pub fn deserialize_in(mode: Mode, buffer: &[u8]) -> DeserializedIn
+    ensures { λ r. ⌜ shownIn r ≡ readIn mode (now (buffer .entry)) ⌝ }
 {
     match mode {
-        Mode::Default => Telegram::deserialize(buffer),
+        Mode::Default => by_number(Telegram::deserialize(buffer)),
         Mode::Strict => deserialize_strict(buffer),
     }
 }

@@ -1,9 +1,7 @@
 -- `item_of` meets its contract: at the end it is done; else each arm says what the reader answered.
 use mathlib.Core.Path.{sym, ap, _∙_}
-use Prim.Native.Nat.{ℕ}
-use Rattle.listing_lines.specs.declared.line.End.the-variants.{Refused}
-use Rattle.listing_lines.specs.declared.line.Item.the-variants.{Telegram, Last}
-use Rattle.telegram.specs.Reading.{shownReading}
+use Rattle.listing_lines.specs.declared.line.Item.the-variants.{Telegram}
+use Rattle.telegram_strict.specs.Strict.{shownIn}
 use Rattle.telegram_strict.proofs.ModeLaws.{mode-alike}
 use Rattle.listing.proofs.ItemLaws.{item-done, item-read}
 use borrow.Author.Needs.{needs}
@@ -16,26 +14,25 @@ at-end c = sym (item-done _ _ _ (c .if1 .taken))
 line-at-requires : tie.Need-line-at-requires
 line-at-requires c κs =
     let arm = c .before in
-    mode-alike (arm .before .before .before .before .before .args .mode) _ (sym (arm .before .before .deserialize-in .ensures) ∙ ap shownReading (arm .found .given .1))
+    mode-alike (arm .before .before .before .before .before .args .mode) _ (sym (arm .before .before .deserialize-in .ensures) ∙ ap shownIn (arm .found .given .1))
 
 of-telegram : tie.Need-returns-2
 of-telegram c =
     let arm = c .before .before in
     let read = arm .before .before in
     ap Telegram (c .line-at .ensures)
-    ∙ sym (item-read _ _ _ (read .before .if1 .left) (sym (read .deserialize-in .ensures) ∙ ap shownReading (arm .found .given .1)))
+    ∙ sym (item-read _ _ _ (read .before .if1 .left) (sym (read .deserialize-in .ensures) ∙ ap shownIn (arm .found .given .1)))
 
 of-incomplete : tie.Need-returns-3
 of-incomplete c =
     let read = c .before .before in
-    sym (item-read _ _ _ (read .before .if1 .left) (sym (read .deserialize-in .ensures) ∙ ap shownReading (c .enum-told .given .1)))
+    sym (item-read _ _ _ (read .before .if1 .left) (sym (read .deserialize-in .ensures) ∙ ap shownIn (c .enum-told .given .1)))
 
 of-refused : tie.Need-returns-4
 of-refused c =
-    let arm = c .before .before in
+    let arm = c .before in
     let read = arm .before .before in
-    ap (λ (k : ℕ). Last (Refused k) (read .before .before .before .args .at)) (c .number .ensures)
-    ∙ sym (item-read _ _ _ (read .before .if1 .left) (sym (read .deserialize-in .ensures) ∙ ap shownReading (arm .found2 .given .1)))
+    sym (item-read _ _ _ (read .before .if1 .left) (sym (read .deserialize-in .ensures) ∙ ap shownIn (arm .found2 .given .1)))
 
 pub item-of-spec : {M : Type 1} → statement M
 item-of-spec =
@@ -47,7 +44,6 @@ item-of-spec =
     line-at-requires
     (λ c. search needs)
     (λ c. search needs)
-    (λ c κs. search needs)
     of-telegram
     of-incomplete
     of-refused)

@@ -9,9 +9,11 @@ use Rattle.telegram_strict.proofs.strict.deserialize_in.Tie as tie
 
 by-default : tie.Need-returns
 by-default c =
-    let arm = c .before in
+    let found = c .before in
+    let arm = found .before in
     let start = arm .before .before .before in
-    c .deserialize .ensures ∙ sym (ap (λ (mode : Mode). readIn mode (now (start .args .buffer))) (arm .enum-told .given .1))
+    c .by-number .ensures ∙ found .deserialize .ensures
+    ∙ sym (ap (λ (mode : Mode). readIn mode (now (start .args .buffer))) (arm .enum-told .given .1))
 
 strictly : tie.Need-returns-2
 strictly c =
@@ -24,6 +26,7 @@ deserialize-in-spec =
     tie.close
     (tie.spec
     (λ c. search needs)
+    (λ c κs. search needs)
     (λ c κs. search needs)
     (λ c. search needs)
     (λ c κs. search needs)

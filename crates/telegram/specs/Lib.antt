@@ -1,7 +1,7 @@
 -- Read `Picture` and `Begins`: what a telegram is; then `Reading`: what a reader answers.
 -- the bytes of a telegram, as the standard draws it
 pub mod Picture
--- which bytes begin with a telegram, by the standard and by document 01
+-- which bytes begin with a telegram, by the standard, by document 01 and in strict mode
 pub mod Begins
 -- document 01's steps of reading, with their refusals
 pub mod Reading

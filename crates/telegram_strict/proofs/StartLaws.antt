@@ -71,10 +71,23 @@ pub hold-past : {s : List ℕ} → LengthsHold s → pastLengths s ≡ true
 unfolding pastLengths
 hold-past h = rw (le-leb _ _ (h .six), eq-eqb _ _ (h .delimiter), eq-eqb _ _ (h .agree), le-leb _ _ (h .three))
 
--- where the first three of its tests hold, the fourth decides
-pub past-by-length : (s : List ℕ) → 6 ≤ length s → byteAt s 0 ≡ SD2 → byteAt s 1 ≡ byteAt s 2 → leb 3 (byteAt s 1) ≡ pastLengths s
-unfolding pastLengths
-past-by-length s h d e = rw (le-leb _ _ h, eq-eqb _ _ d, eq-eqb _ _ e)
+-- by each of its tests, where those before it hold; the last decides
+module _ (s : List ℕ) where
+  pub past-short : length s < 6 → pastLengths s ≡ false
+  unfolding pastLengths
+  past-short h = rw (lt-leb _ _ h)
+
+  pub past-other : 6 ≤ length s → (byteAt s 0 ≡ SD2 → ⊥) → pastLengths s ≡ false
+  unfolding pastLengths
+  past-other h d = rw (le-leb _ _ h, ne-eqb _ _ d)
+
+  pub past-differ : 6 ≤ length s → byteAt s 0 ≡ SD2 → (byteAt s 1 ≡ byteAt s 2 → ⊥) → pastLengths s ≡ false
+  unfolding pastLengths
+  past-differ h d e = rw (le-leb _ _ h, eq-eqb _ _ d, ne-eqb _ _ e)
+
+  pub past-by-length : 6 ≤ length s → byteAt s 0 ≡ SD2 → byteAt s 1 ≡ byteAt s 2 → leb 3 (byteAt s 1) ≡ pastLengths s
+  unfolding pastLengths
+  past-by-length h d e = rw (le-leb _ _ h, eq-eqb _ _ d, eq-eqb _ _ e)
 
 -- ---- the reason for the start's number
 

@@ -1,7 +1,7 @@
 //! `read` and `about`: every byte string is in the Rust's domain.
 use crate::chunks::{hex, Chunks};
 use crate::random::Random;
-use crate::telegram::{damaged, framed, good, shaken, ED, SC, SD1, SD2, SD3, SD4};
+use crate::telegram::{damaged, framed, good, shaken, with_every_value, ED, SC, SD1, SD2, SD3, SD4};
 
 const LONGEST_BYTES: usize = 4_200;
 
@@ -133,18 +133,10 @@ fn ends(chunks: &mut Chunks) {
     }
 }
 
-/// Every value in every place of a telegram of each form.
 fn every_value(chunks: &mut Chunks, random: &mut Random) {
-    let long = [vec![0x85, 0x82, 0x5C], random.bytes(8)].concat();
-    for telegram in [framed(SD1, &[5, 2, 0x49]), framed(SD2, &long[..6]), framed(SD3, &long), vec![SD4, 5, 2]] {
-        for place in 0..telegram.len() {
-            for value in 0..=255 {
-                let mut copy = telegram.clone();
-                copy[place] = value;
-                read(chunks, "read-values", &copy);
-                about(chunks, &copy);
-            }
-        }
+    for copy in with_every_value(random) {
+        read(chunks, "read-values", &copy);
+        about(chunks, &copy);
     }
 }
 

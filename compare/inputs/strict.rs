@@ -2,7 +2,7 @@
 //! them; those with a sloppy one stand outside, where request 2026-05 decides.
 use crate::chunks::{hex, Chunks};
 use crate::random::Random;
-use crate::telegram::{framed, good, shaken, SD1, SD2, SD3, SD4};
+use crate::telegram::{framed, good, shaken, with_every_value, SD2};
 
 pub struct Strict<'a> {
     pub inside: &'a mut Chunks,
@@ -55,17 +55,9 @@ impl Strict<'_> {
         }
     }
 
-    /// Every value in every place of a telegram of each form.
     fn every_value(&mut self, random: &mut Random) {
-        let long = [vec![0x85, 0x82, 0x5C], random.bytes(8)].concat();
-        for telegram in [framed(SD1, &[5, 2, 0x49]), framed(SD2, &long[..6]), framed(SD3, &long), vec![SD4, 5, 2]] {
-            for place in 0..telegram.len() {
-                for value in 0..=255 {
-                    let mut copy = telegram.clone();
-                    copy[place] = value;
-                    self.read(&copy);
-                }
-            }
+        for copy in with_every_value(random) {
+            self.read(&copy);
         }
     }
 

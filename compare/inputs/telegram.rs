@@ -92,3 +92,19 @@ pub fn shaken(random: &mut Random, telegram: &[u8]) -> Vec<u8> {
     }
     copy
 }
+
+/// A telegram of each form, with every value in every place in turn.
+pub fn with_every_value(random: &mut Random) -> Vec<Vec<u8>> {
+    let long = [vec![0x85, 0x82, 0x5C], random.bytes(8)].concat();
+    let mut all = Vec::new();
+    for telegram in [framed(SD1, &[5, 2, 0x49]), framed(SD2, &long[..6]), framed(SD3, &long), vec![SD4, 5, 2]] {
+        for place in 0..telegram.len() {
+            for value in 0..=255 {
+                let mut copy = telegram.clone();
+                copy[place] = value;
+                all.push(copy);
+            }
+        }
+    }
+    all
+}

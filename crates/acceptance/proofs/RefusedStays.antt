@@ -43,49 +43,79 @@ use lib.ListN.{length, get_or, replicate, length-replicate}
 use Rattle.acceptance.proofs.RefusedLaws.{carried, front_stays, written_stays, coded_stays, settings_stay, listing_stays, station_refused, next_set_stays, removed_stays, FillStays, fill_stays, read_told, WriteStays, write_data_stays, bare_stays, stations_stay, settings_told, SettingsStay, settings_write_stays, walk_moves, StepMoves, step_moves, FillCallStays, fill_call_stays, row_kept}
 use Rattle.acceptance.proofs.RefusedTurns.{Unmoved, submit_unmoved, silence_unmoved, hear_unmoved, restart_unmoved, responder_hear_unmoved, answer_unmoved, submit_on_lem, silence_on_lem, hear_on_lem, responder_hear_on, answer_on_lem, Uncrossed, Unguarded, new_stays, guarded_new_stays, koy_submit, koy_silence, koy_initiator_hear_lem, koy_restart, koy_responder_hear_lem, koy_answer, stamped_stays, numbered_stays, ignored_stays, other_stays}
 use Rattle.acceptance.specs.Refused.{IsRefused, IsNumber, sized, RefusedLeaves, RefusedStays, RefusedKeeps}
-use Rattle.codes.proofs.frame_count_bit.FrameCountBit.cycle as cycle
+use Rattle.codes.specs.contracts.frame_count_bit.FrameCountBit.cycle as cycle
+use Rattle.codes.proofs.frame_count_bit.FrameCountBit.cycle.Reads as cycle_reads
 use Rattle.codes.specs.FrameCountBits.{shown_cycled}
 use Rattle.codes.specs.FunctionCodes.{function_code_of}
-use Rattle.diagnostics.proofs.store.ExtendedDiagnostics.fill as fill
-use Rattle.diagnostics.proofs.walk.ExtDiagBlockIter.next as next
+use Rattle.diagnostics.specs.contracts.store.ExtendedDiagnostics.fill as fill
+use Rattle.diagnostics.proofs.store.ExtendedDiagnostics.fill.Reads as fill_reads
+use Rattle.diagnostics.specs.contracts.walk.ExtDiagBlockIter.next as next
+use Rattle.diagnostics.proofs.walk.ExtDiagBlockIter.next.Reads as next_reads
 use Rattle.diagnostics.specs.Shown.{shown_found}
 use Rattle.diagnostics.specs.Store.{walked_of}
 use Rattle.diagnostics.specs.Walk as walk
-use Rattle.exports_diagnostics.proofs.koy_diagnostics_fill as koy_diagnostics_fill
-use Rattle.exports_diagnostics.proofs.koy_diagnostics_step as koy_diagnostics_step
-use Rattle.exports_guarded.proofs.guarded_initiator.koy_guarded_initiator_hear as koy_guarded_initiator_hear
-use Rattle.exports_guarded.proofs.guarded_initiator.koy_guarded_initiator_new as koy_guarded_initiator_new
-use Rattle.exports_guarded.proofs.guarded_initiator.koy_guarded_initiator_silence as koy_guarded_initiator_silence
-use Rattle.exports_guarded.proofs.guarded_initiator.koy_guarded_initiator_submit as koy_guarded_initiator_submit
-use Rattle.exports_guarded.proofs.guarded_responder.koy_guarded_responder_answer as koy_guarded_responder_answer
-use Rattle.exports_guarded.proofs.guarded_responder.koy_guarded_responder_hear as koy_guarded_responder_hear
-use Rattle.exports_guarded.proofs.guarded_responder.koy_guarded_responder_new as koy_guarded_responder_new
+use Rattle.exports_diagnostics.specs.contracts.koy_diagnostics_fill as koy_diagnostics_fill
+use Rattle.exports_diagnostics.proofs.koy_diagnostics_fill.Reads as koy_diagnostics_fill_reads
+use Rattle.exports_diagnostics.specs.contracts.koy_diagnostics_step as koy_diagnostics_step
+use Rattle.exports_diagnostics.proofs.koy_diagnostics_step.Reads as koy_diagnostics_step_reads
+use Rattle.exports_guarded.specs.contracts.guarded_initiator.koy_guarded_initiator_hear as koy_guarded_initiator_hear
+use Rattle.exports_guarded.proofs.guarded_initiator.koy_guarded_initiator_hear.Reads as koy_guarded_initiator_hear_reads
+use Rattle.exports_guarded.specs.contracts.guarded_initiator.koy_guarded_initiator_new as koy_guarded_initiator_new
+use Rattle.exports_guarded.proofs.guarded_initiator.koy_guarded_initiator_new.Reads as koy_guarded_initiator_new_reads
+use Rattle.exports_guarded.specs.contracts.guarded_initiator.koy_guarded_initiator_silence as koy_guarded_initiator_silence
+use Rattle.exports_guarded.proofs.guarded_initiator.koy_guarded_initiator_silence.Reads as koy_guarded_initiator_silence_reads
+use Rattle.exports_guarded.specs.contracts.guarded_initiator.koy_guarded_initiator_submit as koy_guarded_initiator_submit
+use Rattle.exports_guarded.proofs.guarded_initiator.koy_guarded_initiator_submit.Reads as koy_guarded_initiator_submit_reads
+use Rattle.exports_guarded.specs.contracts.guarded_responder.koy_guarded_responder_answer as koy_guarded_responder_answer
+use Rattle.exports_guarded.proofs.guarded_responder.koy_guarded_responder_answer.Reads as koy_guarded_responder_answer_reads
+use Rattle.exports_guarded.specs.contracts.guarded_responder.koy_guarded_responder_hear as koy_guarded_responder_hear
+use Rattle.exports_guarded.proofs.guarded_responder.koy_guarded_responder_hear.Reads as koy_guarded_responder_hear_reads
+use Rattle.exports_guarded.specs.contracts.guarded_responder.koy_guarded_responder_new as koy_guarded_responder_new
+use Rattle.exports_guarded.proofs.guarded_responder.koy_guarded_responder_new.Reads as koy_guarded_responder_new_reads
 use Rattle.exports_guarded.specs.Calls.{GuardedNew}
 use Rattle.guards.specs.Guards.{handed_of, is_stale}
-use Rattle.exports_link.proofs.initiator_end.koy_initiator_hear as koy_initiator_hear
-use Rattle.exports_link.proofs.initiator_end.koy_initiator_new as koy_initiator_new
-use Rattle.exports_link.proofs.initiator_end.koy_initiator_restart as koy_initiator_restart
-use Rattle.exports_link.proofs.initiator_end.koy_initiator_silence as koy_initiator_silence
-use Rattle.exports_link.proofs.initiator_end.koy_initiator_submit as koy_initiator_submit
-use Rattle.exports_link.proofs.responder_end.koy_responder_answer as koy_responder_answer
-use Rattle.exports_link.proofs.responder_end.koy_responder_hear as koy_responder_hear
-use Rattle.exports_link.proofs.responder_end.koy_responder_new as koy_responder_new
+use Rattle.exports_link.specs.contracts.initiator_end.koy_initiator_hear as koy_initiator_hear
+use Rattle.exports_link.proofs.initiator_end.koy_initiator_hear.Reads as koy_initiator_hear_reads
+use Rattle.exports_link.specs.contracts.initiator_end.koy_initiator_new as koy_initiator_new
+use Rattle.exports_link.proofs.initiator_end.koy_initiator_new.Reads as koy_initiator_new_reads
+use Rattle.exports_link.specs.contracts.initiator_end.koy_initiator_restart as koy_initiator_restart
+use Rattle.exports_link.proofs.initiator_end.koy_initiator_restart.Reads as koy_initiator_restart_reads
+use Rattle.exports_link.specs.contracts.initiator_end.koy_initiator_silence as koy_initiator_silence
+use Rattle.exports_link.proofs.initiator_end.koy_initiator_silence.Reads as koy_initiator_silence_reads
+use Rattle.exports_link.specs.contracts.initiator_end.koy_initiator_submit as koy_initiator_submit
+use Rattle.exports_link.proofs.initiator_end.koy_initiator_submit.Reads as koy_initiator_submit_reads
+use Rattle.exports_link.specs.contracts.responder_end.koy_responder_answer as koy_responder_answer
+use Rattle.exports_link.proofs.responder_end.koy_responder_answer.Reads as koy_responder_answer_reads
+use Rattle.exports_link.specs.contracts.responder_end.koy_responder_hear as koy_responder_hear
+use Rattle.exports_link.proofs.responder_end.koy_responder_hear.Reads as koy_responder_hear_reads
+use Rattle.exports_link.specs.contracts.responder_end.koy_responder_new as koy_responder_new
+use Rattle.exports_link.proofs.responder_end.koy_responder_new.Reads as koy_responder_new_reads
 use Rattle.exports_link.specs.Calls.{NewCall}
 use Rattle.exports_link.specs.InitiatorCalls.{initiator_crosses}
 use Rattle.exports_link.specs.ResponderCalls.{responder_crosses}
-use Rattle.exports_settings.proofs.koy_settings_read as koy_settings_read
-use Rattle.exports_settings.proofs.koy_settings_write as koy_settings_write
+use Rattle.exports_settings.specs.contracts.koy_settings_read as koy_settings_read
+use Rattle.exports_settings.proofs.koy_settings_read.Reads as koy_settings_read_reads
+use Rattle.exports_settings.specs.contracts.koy_settings_write as koy_settings_write
+use Rattle.exports_settings.proofs.koy_settings_write.Reads as koy_settings_write_reads
 use Rattle.exports_settings.specs.Calls as settings
-use Rattle.exports_stations.proofs.stations.koy_stations_new as koy_stations_new
-use Rattle.exports_stations.proofs.stations.koy_stations_remove as koy_stations_remove
-use Rattle.exports_stations.proofs.stations.koy_stations_set_next as koy_stations_set_next
+use Rattle.exports_stations.specs.contracts.stations.koy_stations_new as koy_stations_new
+use Rattle.exports_stations.proofs.stations.koy_stations_new.Reads as koy_stations_new_reads
+use Rattle.exports_stations.specs.contracts.stations.koy_stations_remove as koy_stations_remove
+use Rattle.exports_stations.proofs.stations.koy_stations_remove.Reads as koy_stations_remove_reads
+use Rattle.exports_stations.specs.contracts.stations.koy_stations_set_next as koy_stations_set_next
+use Rattle.exports_stations.proofs.stations.koy_stations_set_next.Reads as koy_stations_set_next_reads
 use Rattle.exports_stations.specs.Bytes.{stations_of}
 use Rattle.exports_stations.specs.Calls as stations
-use Rattle.exports_strict.proofs.koy_read_strict as koy_read_strict
-use Rattle.exports_telegrams.proofs.reading.koy_read as koy_read
-use Rattle.exports_telegrams.proofs.writing.koy_write_confirmation as koy_write_confirmation
-use Rattle.exports_telegrams.proofs.writing.koy_write_data as koy_write_data
-use Rattle.exports_telegrams.proofs.writing.koy_write_token as koy_write_token
+use Rattle.exports_strict.specs.contracts.koy_read_strict as koy_read_strict
+use Rattle.exports_strict.proofs.koy_read_strict.Reads as koy_read_strict_reads
+use Rattle.exports_telegrams.specs.contracts.reading.koy_read as koy_read
+use Rattle.exports_telegrams.proofs.reading.koy_read.Reads as koy_read_reads
+use Rattle.exports_telegrams.specs.contracts.writing.koy_write_confirmation as koy_write_confirmation
+use Rattle.exports_telegrams.proofs.writing.koy_write_confirmation.Reads as koy_write_confirmation_reads
+use Rattle.exports_telegrams.specs.contracts.writing.koy_write_data as koy_write_data
+use Rattle.exports_telegrams.proofs.writing.koy_write_data.Reads as koy_write_data_reads
+use Rattle.exports_telegrams.specs.contracts.writing.koy_write_token as koy_write_token
+use Rattle.exports_telegrams.proofs.writing.koy_write_token.Reads as koy_write_token_reads
 use Rattle.exports_telegrams.specs.Read.{ReadCall}
 use Rattle.exports_telegrams.specs.Write.{BareCall}
 use Rattle.ground.specs.Determined.{Promise, Says}
@@ -95,55 +125,81 @@ use Rattle.initiator.specs.contracts.head.InitiatorHead.restart as head_restart
 use Rattle.initiator.specs.contracts.head.InitiatorHead.silence as head_silence
 use Rattle.initiator.specs.contracts.head.InitiatorHead.submit as head_submit
 use Rattle.initiator.specs.contracts.state.Initiator.hear as initiator_hear
-use Rattle.initiator.proofs.state.Initiator.new as initiator_new
+use Rattle.initiator.specs.contracts.state.Initiator.new as initiator_new
+use Rattle.initiator.proofs.state.Initiator.new.Reads as initiator_new_reads
 use Rattle.initiator.specs.contracts.state.Initiator.restart as initiator_restart
 use Rattle.initiator.specs.contracts.state.Initiator.silence as silence
 use Rattle.initiator.specs.contracts.state.Initiator.submit as submit
-use Rattle.initiator.proofs.state.Initiator.with_default_tries as with_default_tries
+use Rattle.initiator.specs.contracts.state.Initiator.with_default_tries as with_default_tries
+use Rattle.initiator.proofs.state.Initiator.with_default_tries.Reads as with_default_tries_reads
 use Rattle.initiator.specs.Calls as initiator
 use Rattle.initiator.specs.Heads.{whole_of, head_after}
 use Rattle.initiator.specs.Records.{made_of as initiator_made}
 use Rattle.link_rules.specs.Rules.{link_of}
 use Rattle.link_telegrams.specs.Turns as turns
-use Rattle.listing.proofs.whole.list as list
-use Rattle.listing.proofs.whole.list_in as list_in
-use Rattle.listing.proofs.whole.output as output
-use Rattle.listing.proofs.whole.output_in as output_in
+use Rattle.listing.specs.contracts.whole.list as list
+use Rattle.listing.proofs.whole.list.Reads as list_reads
+use Rattle.listing.specs.contracts.whole.list_in as list_in
+use Rattle.listing.proofs.whole.list_in.Reads as list_in_reads
+use Rattle.listing.specs.contracts.whole.output as output
+use Rattle.listing.proofs.whole.output.Reads as output_reads
+use Rattle.listing.specs.contracts.whole.output_in as output_in
+use Rattle.listing.proofs.whole.output_in.Reads as output_in_reads
 use Rattle.listing.specs.Answers as listing
-use Rattle.responder.proofs.head.ResponderHead.answer as responder_head_answer
-use Rattle.responder.proofs.head.ResponderHead.hear as responder_head_hear
+use Rattle.responder.specs.contracts.head.ResponderHead.answer as responder_head_answer
+use Rattle.responder.proofs.head.ResponderHead.answer.Reads as responder_head_answer_reads
+use Rattle.responder.specs.contracts.head.ResponderHead.hear as responder_head_hear
+use Rattle.responder.proofs.head.ResponderHead.hear.Reads as responder_head_hear_reads
 use Rattle.responder.specs.contracts.state.Responder.answer as responder_answer
 use Rattle.responder.specs.contracts.state.Responder.hear as responder_hear
-use Rattle.responder.proofs.state.Responder.new as responder_new
+use Rattle.responder.specs.contracts.state.Responder.new as responder_new
+use Rattle.responder.proofs.state.Responder.new.Reads as responder_new_reads
 use Rattle.responder.specs.Calls as responder
 use Rattle.responder.specs.Records.{made_of as responder_made}
-use Rattle.responder_row.proofs.head.RowHead.answer as row_answer
+use Rattle.responder_row.specs.contracts.head.RowHead.answer as row_answer
+use Rattle.responder_row.proofs.head.RowHead.answer.Reads as row_answer_reads
 use Rattle.ring_driver.specs.contracts.remove_station as lent_remove_station
 use Rattle.ring_driver.specs.contracts.set_next_station as lent_set_next_station
-use Rattle.settings.proofs.settings.read_settings as read_settings
-use Rattle.settings.proofs.settings.write_settings as write_settings
+use Rattle.settings.specs.contracts.settings.read_settings as read_settings
+use Rattle.settings.proofs.settings.read_settings.Reads as read_settings_reads
+use Rattle.settings.specs.contracts.settings.write_settings as write_settings
+use Rattle.settings.proofs.settings.write_settings.Reads as write_settings_reads
 use Rattle.settings.specs.Reading as settingsReading
 use Rattle.settings.specs.Writing as settingsWriting
-use Rattle.telegram.proofs.frame.frame_of as frame_of
+use Rattle.telegram.specs.contracts.frame.frame_of as frame_of
+use Rattle.telegram.proofs.frame.frame_of.Reads as frame_of_reads
 use Rattle.telegram.specs.contracts.kinds.Telegram.deserialize as deserialize
 use Rattle.telegram.specs.Frames.{shown_frame, frame_refused}
 use Rattle.telegram.specs.Reading as reading
-use Rattle.telegram_bytes.proofs.serialized.serialize as serialize
+use Rattle.telegram_bytes.specs.contracts.serialized.serialize as serialize
+use Rattle.telegram_bytes.proofs.serialized.serialize.Reads as serialize_reads
 use Rattle.telegram_bytes.specs.Serialized.{shown_serialized}
-use Rattle.telegram_strict.proofs.strict.deserialize_in as deserialize_in
-use Rattle.telegram_strict.proofs.strict.deserialize_strict as deserialize_strict
-use Rattle.telegram_strict.proofs.strict.strict_start as strict_start
+use Rattle.telegram_strict.specs.contracts.strict.deserialize_in as deserialize_in
+use Rattle.telegram_strict.proofs.strict.deserialize_in.Reads as deserialize_in_reads
+use Rattle.telegram_strict.specs.contracts.strict.deserialize_strict as deserialize_strict
+use Rattle.telegram_strict.proofs.strict.deserialize_strict.Reads as deserialize_strict_reads
+use Rattle.telegram_strict.specs.contracts.strict.strict_start as strict_start
+use Rattle.telegram_strict.proofs.strict.strict_start.Reads as strict_start_reads
 use Rattle.telegram_strict.specs.Strict.{shown_in, strict_of}
-use Rattle.telegram_tx.proofs.tx.send_coded_telegram as send_coded_telegram
-use Rattle.telegram_tx.proofs.tx.send_data_telegram as send_data_telegram
-use Rattle.telegram_tx.proofs.tx.send_fdl_status_request as send_fdl_status_request
-use Rattle.telegram_tx.proofs.tx.send_fdl_status_response as send_fdl_status_response
-use Rattle.telegram_tx.proofs.tx.send_short_confirmation as send_short_confirmation
-use Rattle.telegram_tx.proofs.tx.send_token_telegram as send_token_telegram
+use Rattle.telegram_tx.specs.contracts.tx.send_coded_telegram as send_coded_telegram
+use Rattle.telegram_tx.proofs.tx.send_coded_telegram.Reads as send_coded_telegram_reads
+use Rattle.telegram_tx.specs.contracts.tx.send_data_telegram as send_data_telegram
+use Rattle.telegram_tx.proofs.tx.send_data_telegram.Reads as send_data_telegram_reads
+use Rattle.telegram_tx.specs.contracts.tx.send_fdl_status_request as send_fdl_status_request
+use Rattle.telegram_tx.proofs.tx.send_fdl_status_request.Reads as send_fdl_status_request_reads
+use Rattle.telegram_tx.specs.contracts.tx.send_fdl_status_response as send_fdl_status_response
+use Rattle.telegram_tx.proofs.tx.send_fdl_status_response.Reads as send_fdl_status_response_reads
+use Rattle.telegram_tx.specs.contracts.tx.send_short_confirmation as send_short_confirmation
+use Rattle.telegram_tx.proofs.tx.send_short_confirmation.Reads as send_short_confirmation_reads
+use Rattle.telegram_tx.specs.contracts.tx.send_token_telegram as send_token_telegram
+use Rattle.telegram_tx.proofs.tx.send_token_telegram.Reads as send_token_telegram_reads
 use Rattle.telegram_tx.specs.Writing.{shown_writing, write_token_of, write_confirmation_of}
-use Rattle.token_ring.proofs.ring.TokenRing.new as new_ring
-use Rattle.token_ring.proofs.ring.TokenRing.remove_station as remove_station
-use Rattle.token_ring.proofs.ring.TokenRing.set_next_station as set_next_station
+use Rattle.token_ring.specs.contracts.ring.TokenRing.new as new_ring
+use Rattle.token_ring.proofs.ring.TokenRing.new.Reads as new_ring_reads
+use Rattle.token_ring.specs.contracts.ring.TokenRing.remove_station as remove_station
+use Rattle.token_ring.proofs.ring.TokenRing.remove_station.Reads as remove_station_reads
+use Rattle.token_ring.specs.contracts.ring.TokenRing.set_next_station as set_next_station
+use Rattle.token_ring.proofs.ring.TokenRing.set_next_station.Reads as set_next_station_reads
 use Rattle.token_ring.specs.Promises.{Gives}
 use Rattle.token_ring.specs.Rules.{made, next_set, removed, station_answer}
 
@@ -156,71 +212,71 @@ lent_remove κs a x e = Gives (station_answer a.1.0.0) (removed a.1.0.0 a.0.now)
 
 pub record EveryRefusal : Type 2 where
   -- codes and telegrams
-  pub cycle : RefusedStays cycle.ended cycle.Reads.Learnt (λ κs x. IsRefused refused (shown_cycled x)) (λ κs e. e)
+  pub cycle : RefusedStays cycle.ended cycle_reads.Learnt (λ κs x. IsRefused refused (shown_cycled x)) (λ κs e. e)
   pub deserialize :
       RefusedStays deserialize.ended deserialize.Reads.Learnt (λ κs x. IsRefused reading.refused (reading.shown_reading x))
       (λ κs e. e)
-  pub strict_start : RefusedStays strict_start.ended strict_start.Reads.Learnt (λ κs x. IsNumber x) (λ κs e. e)
+  pub strict_start : RefusedStays strict_start.ended strict_start_reads.Learnt (λ κs x. IsNumber x) (λ κs e. e)
   pub deserialize_strict :
-      RefusedStays deserialize_strict.ended deserialize_strict.Reads.Learnt (λ κs x. IsRefused reading.refused (shown_in x))
+      RefusedStays deserialize_strict.ended deserialize_strict_reads.Learnt (λ κs x. IsRefused reading.refused (shown_in x))
       (λ κs e. e)
   pub deserialize_in :
-      RefusedStays deserialize_in.ended deserialize_in.Reads.Learnt (λ κs x. IsRefused reading.refused (shown_in x))
+      RefusedStays deserialize_in.ended deserialize_in_reads.Learnt (λ κs x. IsRefused reading.refused (shown_in x))
       (λ κs e. e)
-  pub frame_of : RefusedStays frame_of.ended frame_of.Reads.Learnt (λ κs x. IsRefused frame_refused (shown_frame x)) (λ κs e. e)
+  pub frame_of : RefusedStays frame_of.ended frame_of_reads.Learnt (λ κs x. IsRefused frame_refused (shown_frame x)) (λ κs e. e)
   pub serialize :
-      RefusedStays serialize.ended serialize.Reads.Learnt (λ κs x. IsRefused refused (shown_serialized x)) (λ κs e. e)
+      RefusedStays serialize.ended serialize_reads.Learnt (λ κs x. IsRefused refused (shown_serialized x)) (λ κs e. e)
   pub send_data_telegram :
-      RefusedStays send_data_telegram.ended send_data_telegram.Reads.Learnt (λ κs x. IsRefused refused (shown_writing x))
+      RefusedStays send_data_telegram.ended send_data_telegram_reads.Learnt (λ κs x. IsRefused refused (shown_writing x))
       (λ κs e. e)
   pub send_coded_telegram :
-      RefusedStays send_coded_telegram.ended send_coded_telegram.Reads.Learnt (λ κs x. IsRefused refused (shown_writing x))
+      RefusedStays send_coded_telegram.ended send_coded_telegram_reads.Learnt (λ κs x. IsRefused refused (shown_writing x))
       (λ κs e. e)
   pub send_token_telegram :
-      RefusedStays send_token_telegram.ended send_token_telegram.Reads.Learnt (λ κs x. IsRefused refused (shown_writing x))
+      RefusedStays send_token_telegram.ended send_token_telegram_reads.Learnt (λ κs x. IsRefused refused (shown_writing x))
       (λ κs e. e)
   pub send_short_confirmation :
-      RefusedStays send_short_confirmation.ended send_short_confirmation.Reads.Learnt (λ κs x. IsRefused refused (shown_writing x))
+      RefusedStays send_short_confirmation.ended send_short_confirmation_reads.Learnt (λ κs x. IsRefused refused (shown_writing x))
       (λ κs e. e)
   pub send_fdl_status_request :
-      RefusedStays send_fdl_status_request.ended send_fdl_status_request.Reads.Learnt (λ κs x. IsRefused refused (shown_writing x))
+      RefusedStays send_fdl_status_request.ended send_fdl_status_request_reads.Learnt (λ κs x. IsRefused refused (shown_writing x))
       (λ κs e. e)
   pub send_fdl_status_response :
-      RefusedStays send_fdl_status_response.ended send_fdl_status_response.Reads.Learnt (λ κs x. IsRefused refused (shown_writing x))
+      RefusedStays send_fdl_status_response.ended send_fdl_status_response_reads.Learnt (λ κs x. IsRefused refused (shown_writing x))
       (λ κs e. e)
   -- the station list: made, by value, lent
-  pub new_ring : RefusedStays new_ring.ended new_ring.Reads.Learnt (λ κs x. IsNumber (shown x.answer)) (λ κs e. e)
+  pub new_ring : RefusedStays new_ring.ended new_ring_reads.Learnt (λ κs x. IsNumber (shown x.answer)) (λ κs e. e)
   pub set_next_station :
-      RefusedKeeps set_next_station.ended set_next_station.Reads.Learnt (λ κs x. IsNumber (shown x.answer))
+      RefusedKeeps set_next_station.ended set_next_station_reads.Learnt (λ κs x. IsNumber (shown x.answer))
       (λ κs e. e) (λ κs a x. x.ring) (λ κs a. a.0)
   pub remove_station :
-      RefusedKeeps remove_station.ended remove_station.Reads.Learnt (λ κs x. IsNumber (shown x.answer))
+      RefusedKeeps remove_station.ended remove_station_reads.Learnt (λ κs x. IsNumber (shown x.answer))
       (λ κs e. e) (λ κs a x. x.ring) (λ κs a. a.0)
   pub lent_set_next_says : Says lent_set_next_station.ended (λ M. lent_set_next_station.clauses) lent_set_next
   pub lent_set_next_station : RefusedStays lent_set_next_station.ended lent_set_next (λ κs x. IsNumber (shown x)) (λ κs e. e)
   pub lent_remove_says : Says lent_remove_station.ended (λ M. lent_remove_station.clauses) lent_remove
   pub lent_remove_station : RefusedStays lent_remove_station.ended lent_remove (λ κs x. IsNumber (shown x)) (λ κs e. e)
   -- diagnostics: filling answers false; a refused step moves the cursor to the end of what is walked
-  pub fill : RefusedKeeps fill.ended fill.Reads.Learnt (λ κs x. x.filled ≡ false) (λ κs e. e) (λ κs a x. x.diag) (λ κs a. a.0)
+  pub fill : RefusedKeeps fill.ended fill_reads.Learnt (λ κs x. x.filled ≡ false) (λ κs e. e) (λ κs a x. x.diag) (λ κs a. a.0)
   pub next :
-      RefusedLeaves next.ended next.Reads.Learnt (λ κs x. IsRefused walk.refused (shown_found x.found))
+      RefusedLeaves next.ended next_reads.Learnt (λ κs x. IsRefused walk.refused (shown_found x.found))
       (λ κs e. e) (λ κs a. a)
       (λ κs a x. x.iter.cursor) (λ κs a. length (walked_of a.1.0.length a.1.1.0.now))
   -- texts
   pub read_settings :
-      RefusedStays read_settings.ended read_settings.Reads.Learnt (λ κs x. IsRefused settingsReading.refused (settingsReading.shown_read x))
+      RefusedStays read_settings.ended read_settings_reads.Learnt (λ κs x. IsRefused settingsReading.refused (settingsReading.shown_read x))
       (λ κs e. e)
   pub write_settings :
-      RefusedStays write_settings.ended write_settings.Reads.Learnt (λ κs x. IsRefused settingsWriting.refused (settingsWriting.shown_written x))
+      RefusedStays write_settings.ended write_settings_reads.Learnt (λ κs x. IsRefused settingsWriting.refused (settingsWriting.shown_written x))
       (λ κs e. e)
-  pub list : RefusedStays list.ended list.Reads.Learnt (λ κs x. IsRefused refused (listing.shown_listed x)) (λ κs e. e)
-  pub list_in : RefusedStays list_in.ended list_in.Reads.Learnt (λ κs x. IsRefused refused (listing.shown_listed x)) (λ κs e. e)
-  pub output_in : RefusedStays output_in.ended output_in.Reads.Learnt (λ κs x. IsRefused refused (listing.shown_listed x)) (λ κs e. e)
-  pub output : RefusedStays output.ended output.Reads.Learnt (λ κs x. IsRefused refused (listing.shown_listed x)) (λ κs e. e)
+  pub list : RefusedStays list.ended list_reads.Learnt (λ κs x. IsRefused refused (listing.shown_listed x)) (λ κs e. e)
+  pub list_in : RefusedStays list_in.ended list_in_reads.Learnt (λ κs x. IsRefused refused (listing.shown_listed x)) (λ κs e. e)
+  pub output_in : RefusedStays output_in.ended output_in_reads.Learnt (λ κs x. IsRefused refused (listing.shown_listed x)) (λ κs e. e)
+  pub output : RefusedStays output.ended output_reads.Learnt (λ κs x. IsRefused refused (listing.shown_listed x)) (λ κs e. e)
   -- the initiator: made, by value, on a head and a lent order
-  pub initiator_new : RefusedStays initiator_new.ended initiator_new.Reads.Learnt (λ κs x. IsNumber (shown x.answer)) (λ κs e. e)
+  pub initiator_new : RefusedStays initiator_new.ended initiator_new_reads.Learnt (λ κs x. IsNumber (shown x.answer)) (λ κs e. e)
   pub with_default_tries :
-      RefusedStays with_default_tries.ended with_default_tries.Reads.Learnt (λ κs x. IsNumber (shown x.answer))
+      RefusedStays with_default_tries.ended with_default_tries_reads.Learnt (λ κs x. IsNumber (shown x.answer))
       (λ κs e. e)
   pub submit :
       RefusedKeeps submit.ended submit.Reads.Learnt (λ κs x. IsRefused turns.refused (initiator.shown_said x.answer))
@@ -248,9 +304,9 @@ pub record EveryRefusal : Type 2 where
       (λ κs e. e) (λ κs a x. head_after x a.0) (λ κs a. a.0)
   -- the responder: its row, made, by value, on a head and a lent reply
   pub row_answer :
-      RefusedKeeps row_answer.ended row_answer.Reads.Learnt (λ κs x. IsNumber (shown x.answer))
+      RefusedKeeps row_answer.ended row_answer_reads.Learnt (λ κs x. IsNumber (shown x.answer))
       (λ κs e. e) (λ κs a x. x.head) (λ κs a. a.0)
-  pub responder_new : RefusedStays responder_new.ended responder_new.Reads.Learnt (λ κs x. IsNumber (shown x.answer)) (λ κs e. e)
+  pub responder_new : RefusedStays responder_new.ended responder_new_reads.Learnt (λ κs x. IsNumber (shown x.answer)) (λ κs e. e)
   pub responder_hear :
       RefusedKeeps responder_hear.ended responder_hear.Reads.Learnt (λ κs x. IsRefused turns.refused (responder.shown_said x.answer))
       (λ κs e. e) (λ κs a x. x.responder) (λ κs a. a.0)
@@ -258,64 +314,64 @@ pub record EveryRefusal : Type 2 where
       RefusedKeeps responder_answer.ended responder_answer.Reads.Learnt (λ κs x. IsRefused turns.refused (responder.shown_said x.answer))
       (λ κs e. e) (λ κs a x. x.responder) (λ κs a. a.0)
   pub responder_head_hear :
-      RefusedKeeps responder_head_hear.ended responder_head_hear.Reads.Learnt (λ κs x. IsRefused turns.refused (responder.shown_said x.answer))
+      RefusedKeeps responder_head_hear.ended responder_head_hear_reads.Learnt (λ κs x. IsRefused turns.refused (responder.shown_said x.answer))
       (λ κs e. e) (λ κs a x. x.head) (λ κs a. a.0)
   pub responder_head_answer :
-      RefusedKeeps responder_head_answer.ended responder_head_answer.Reads.Learnt (λ κs x. IsRefused turns.refused (responder.shown_said x.answer))
+      RefusedKeeps responder_head_answer.ended responder_head_answer_reads.Learnt (λ κs x. IsRefused turns.refused (responder.shown_said x.answer))
       (λ κs e. e) (λ κs a x. x.head) (λ κs a. a.0)
   -- the static libraries, whose codes are the numbers
-  pub koy_read : RefusedStays koy_read.ended koy_read.Reads.Learnt (λ κs x. IsNumber x) (λ κs e. e)
-  pub koy_read_strict : RefusedStays koy_read_strict.ended koy_read_strict.Reads.Learnt (λ κs x. IsNumber x) (λ κs e. e)
-  pub koy_write_data : RefusedStays koy_write_data.ended koy_write_data.Reads.Learnt (λ κs x. IsNumber x) (λ κs e. e)
-  pub koy_write_token : RefusedStays koy_write_token.ended koy_write_token.Reads.Learnt (λ κs x. IsNumber x) (λ κs e. e)
-  pub koy_write_confirmation : RefusedStays koy_write_confirmation.ended koy_write_confirmation.Reads.Learnt (λ κs x. IsNumber x) (λ κs e. e)
-  pub koy_stations_new : RefusedStays koy_stations_new.ended koy_stations_new.Reads.Learnt (λ κs x. IsNumber x) (λ κs e. e)
-  pub koy_stations_set_next : RefusedStays koy_stations_set_next.ended koy_stations_set_next.Reads.Learnt (λ κs x. IsNumber x) (λ κs e. e)
-  pub koy_stations_remove : RefusedStays koy_stations_remove.ended koy_stations_remove.Reads.Learnt (λ κs x. IsNumber x) (λ κs e. e)
+  pub koy_read : RefusedStays koy_read.ended koy_read_reads.Learnt (λ κs x. IsNumber x) (λ κs e. e)
+  pub koy_read_strict : RefusedStays koy_read_strict.ended koy_read_strict_reads.Learnt (λ κs x. IsNumber x) (λ κs e. e)
+  pub koy_write_data : RefusedStays koy_write_data.ended koy_write_data_reads.Learnt (λ κs x. IsNumber x) (λ κs e. e)
+  pub koy_write_token : RefusedStays koy_write_token.ended koy_write_token_reads.Learnt (λ κs x. IsNumber x) (λ κs e. e)
+  pub koy_write_confirmation : RefusedStays koy_write_confirmation.ended koy_write_confirmation_reads.Learnt (λ κs x. IsNumber x) (λ κs e. e)
+  pub koy_stations_new : RefusedStays koy_stations_new.ended koy_stations_new_reads.Learnt (λ κs x. IsNumber x) (λ κs e. e)
+  pub koy_stations_set_next : RefusedStays koy_stations_set_next.ended koy_stations_set_next_reads.Learnt (λ κs x. IsNumber x) (λ κs e. e)
+  pub koy_stations_remove : RefusedStays koy_stations_remove.ended koy_stations_remove_reads.Learnt (λ κs x. IsNumber x) (λ κs e. e)
   pub koy_diagnostics_step :
-      RefusedLeaves {R = Unit {0}} koy_diagnostics_step.ended koy_diagnostics_step.Reads.Learnt (λ κs x. IsNumber x)
+      RefusedLeaves {R = Unit {0}} koy_diagnostics_step.ended koy_diagnostics_step_reads.Learnt (λ κs x. IsNumber x)
       (λ κs e. e) (λ κs a. (a.0, (a.1.0, (at_last a.1.1.0 (length (walked_of a.1.0 a.0.now) ∷ []), a.1.1.1))))
       (λ κs a x. tt) (λ κs a. tt)
   pub koy_diagnostics_fill :
       RefusedStays koy_diagnostics_fill.ended
-      (sized koy_diagnostics_fill.ended (λ κs a. length a.1.0.now ≡ 1) koy_diagnostics_fill.Reads.Learnt)
+      (sized koy_diagnostics_fill.ended (λ κs a. length a.1.0.now ≡ 1) koy_diagnostics_fill_reads.Learnt)
       (λ κs x. x ≡ false) (λ κs e. e)
-  pub koy_settings_read : RefusedStays koy_settings_read.ended koy_settings_read.Reads.Learnt (λ κs x. IsNumber x) (λ κs e. e)
-  pub koy_settings_write : RefusedStays koy_settings_write.ended koy_settings_write.Reads.Learnt (λ κs x. IsNumber x) (λ κs e. e)
-  pub koy_initiator_new : RefusedStays koy_initiator_new.ended koy_initiator_new.Reads.Learnt (λ κs x. IsNumber x) (λ κs e. e)
-  pub koy_initiator_submit : RefusedStays koy_initiator_submit.ended koy_initiator_submit.Reads.Learnt (λ κs x. IsNumber x) (λ κs e. e)
-  pub koy_initiator_silence : RefusedStays koy_initiator_silence.ended koy_initiator_silence.Reads.Learnt (λ κs x. IsNumber x) (λ κs e. e)
-  pub koy_initiator_hear : RefusedStays koy_initiator_hear.ended koy_initiator_hear.Reads.Learnt (λ κs x. IsNumber x) (λ κs e. e)
-  pub koy_initiator_restart : RefusedStays koy_initiator_restart.ended koy_initiator_restart.Reads.Learnt (λ κs x. IsNumber x) (λ κs e. e)
-  pub koy_responder_new : RefusedStays koy_responder_new.ended koy_responder_new.Reads.Learnt (λ κs x. IsNumber x) (λ κs e. e)
-  pub koy_responder_hear : RefusedStays koy_responder_hear.ended koy_responder_hear.Reads.Learnt (λ κs x. IsNumber x) (λ κs e. e)
-  pub koy_responder_answer : RefusedStays koy_responder_answer.ended koy_responder_answer.Reads.Learnt (λ κs x. IsNumber x) (λ κs e. e)
+  pub koy_settings_read : RefusedStays koy_settings_read.ended koy_settings_read_reads.Learnt (λ κs x. IsNumber x) (λ κs e. e)
+  pub koy_settings_write : RefusedStays koy_settings_write.ended koy_settings_write_reads.Learnt (λ κs x. IsNumber x) (λ κs e. e)
+  pub koy_initiator_new : RefusedStays koy_initiator_new.ended koy_initiator_new_reads.Learnt (λ κs x. IsNumber x) (λ κs e. e)
+  pub koy_initiator_submit : RefusedStays koy_initiator_submit.ended koy_initiator_submit_reads.Learnt (λ κs x. IsNumber x) (λ κs e. e)
+  pub koy_initiator_silence : RefusedStays koy_initiator_silence.ended koy_initiator_silence_reads.Learnt (λ κs x. IsNumber x) (λ κs e. e)
+  pub koy_initiator_hear : RefusedStays koy_initiator_hear.ended koy_initiator_hear_reads.Learnt (λ κs x. IsNumber x) (λ κs e. e)
+  pub koy_initiator_restart : RefusedStays koy_initiator_restart.ended koy_initiator_restart_reads.Learnt (λ κs x. IsNumber x) (λ κs e. e)
+  pub koy_responder_new : RefusedStays koy_responder_new.ended koy_responder_new_reads.Learnt (λ κs x. IsNumber x) (λ κs e. e)
+  pub koy_responder_hear : RefusedStays koy_responder_hear.ended koy_responder_hear_reads.Learnt (λ κs x. IsNumber x) (λ κs e. e)
+  pub koy_responder_answer : RefusedStays koy_responder_answer.ended koy_responder_answer_reads.Learnt (λ κs x. IsNumber x) (λ κs e. e)
   -- with guards
   pub koy_guarded_initiator_new :
-      RefusedStays koy_guarded_initiator_new.ended koy_guarded_initiator_new.Reads.Learnt (λ κs x. IsNumber x)
+      RefusedStays koy_guarded_initiator_new.ended koy_guarded_initiator_new_reads.Learnt (λ κs x. IsNumber x)
       (λ κs e. e)
   pub koy_guarded_initiator_submit :
       RefusedStays koy_guarded_initiator_submit.ended
-      (sized koy_guarded_initiator_submit.ended (λ κs a. length a.1.0.now ≡ 1) koy_guarded_initiator_submit.Reads.Learnt)
+      (sized koy_guarded_initiator_submit.ended (λ κs a. length a.1.0.now ≡ 1) koy_guarded_initiator_submit_reads.Learnt)
       (λ κs x. IsNumber x) (λ κs e. e)
   pub koy_guarded_initiator_silence :
       RefusedStays koy_guarded_initiator_silence.ended
-      (sized koy_guarded_initiator_silence.ended (λ κs a. length a.1.0.now ≡ 1) koy_guarded_initiator_silence.Reads.Learnt)
+      (sized koy_guarded_initiator_silence.ended (λ κs a. length a.1.0.now ≡ 1) koy_guarded_initiator_silence_reads.Learnt)
       (λ κs x. IsNumber x) (λ κs e. e)
   pub koy_guarded_initiator_hear :
       RefusedStays koy_guarded_initiator_hear.ended
-      (sized koy_guarded_initiator_hear.ended (λ κs a. length a.1.0.now ≡ 1) koy_guarded_initiator_hear.Reads.Learnt)
+      (sized koy_guarded_initiator_hear.ended (λ κs a. length a.1.0.now ≡ 1) koy_guarded_initiator_hear_reads.Learnt)
       (λ κs x. IsNumber x) (λ κs e. e)
   pub koy_guarded_responder_new :
-      RefusedStays koy_guarded_responder_new.ended koy_guarded_responder_new.Reads.Learnt (λ κs x. IsNumber x)
+      RefusedStays koy_guarded_responder_new.ended koy_guarded_responder_new_reads.Learnt (λ κs x. IsNumber x)
       (λ κs e. e)
   pub koy_guarded_responder_hear :
       RefusedStays koy_guarded_responder_hear.ended
-      (sized koy_guarded_responder_hear.ended (λ κs a. length a.1.0.now ≡ 2) koy_guarded_responder_hear.Reads.Learnt)
+      (sized koy_guarded_responder_hear.ended (λ κs a. length a.1.0.now ≡ 2) koy_guarded_responder_hear_reads.Learnt)
       (λ κs x. IsNumber x) (λ κs e. e)
   pub koy_guarded_responder_answer :
       RefusedStays koy_guarded_responder_answer.ended
-      (sized koy_guarded_responder_answer.ended (λ κs a. length a.1.0.now ≡ 2) koy_guarded_responder_answer.Reads.Learnt)
+      (sized koy_guarded_responder_answer.ended (λ κs a. length a.1.0.now ≡ 2) koy_guarded_responder_answer_reads.Learnt)
       (λ κs x. IsNumber x) (λ κs e. e)
 
 pub refused_stays_lem : EveryRefusal

@@ -1,5 +1,7 @@
 // Document 01's acceptance samples, run by the compiled library: a line for each, held to the stored output. Those marked P are proved
 // besides, in the crate `acceptance`.
+#![tactic(auto)]
+
 mod blocks;
 mod print;
 mod reading;

@@ -1,6 +1,8 @@
 // The bench: reads commands from standard input, one a line, and writes one answer line for each, in order. Each command is one call of the
 // library, or a row of them. A line that is no command is answered `error`, and changes nothing; its number and the reason go to standard
 // error.
+#![tactic(auto)]
+
 mod lister_text;
 mod settings_text;
 

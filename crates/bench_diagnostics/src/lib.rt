@@ -1,4 +1,6 @@
 // The bench's commands on diagnostics: `diag`, `step`, `raw` and `store`.
+#![tactic(auto)]
+
 mod blocks;
 mod stores;
 mod walks;

@@ -43,7 +43,7 @@ fn put_step(
 }
 
 // Where a walk goes on behind a step, with the place behind its answer; a cursor that does not move where it ends.
-#[derive(Drop)]
+#[derive(Clone, Copy)]
 struct Walked {
     cursor: usize,
     to: usize,

@@ -12,14 +12,14 @@ use line_text::words::{Input, NOT_MADE, UNKNOWN_COMMAND, get_byte, is_end, numbe
 use link_rules::Link;
 
 // The bench's initiator, and whether there is one yet.
-#[derive(Drop)]
+#[derive(Clone, Copy)]
 pub(crate) struct InitiatorEnd {
     pub(crate) is_made: bool,
     pub(crate) initiator: Initiator,
 }
 
 // The end after a command, and the place behind its answer.
-#[derive(Drop)]
+#[derive(Clone, Copy)]
 pub(crate) struct InitiatorPlayed {
     pub(crate) end: InitiatorEnd,
     pub(crate) to: usize,
@@ -163,7 +163,7 @@ fn make(made: InitiatorMade, old: InitiatorEnd, out: &mut Out, to: usize) -> Ini
 }
 
 // What `I.new` is given: two addresses, the tries where they are stated, and the place behind them.
-#[derive(Drop)]
+#[derive(Clone, Copy)]
 struct Asked {
     own: u8,
     peer: u8,

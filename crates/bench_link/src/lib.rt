@@ -1,5 +1,7 @@
 // The bench's commands on the link. The bench keeps one initiator and one responder; the names of an end's commands begin with its
 // letter, and no other name of the bench does.
+#![tactic(auto)]
+
 mod initiator_end;
 mod parts;
 mod responder_end;
@@ -10,7 +12,7 @@ use line_text::answers::Out;
 use line_text::words::Input;
 
 // The two ends that the bench keeps, and the place behind the last answer.
-#[derive(Drop)]
+#[derive(Clone, Copy)]
 pub struct Ends {
     pub(crate) initiator: InitiatorEnd,
     pub(crate) responder: ResponderEnd,

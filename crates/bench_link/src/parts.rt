@@ -6,7 +6,7 @@ use line_text::strings::{Bytes, get_hex, get_room};
 use line_text::words::{Input, get_byte};
 
 // Two addresses, and the place behind them.
-#[derive(Drop)]
+#[derive(Clone, Copy)]
 pub(crate) struct Addresses {
     pub(crate) own: u8,
     pub(crate) peer: u8,
@@ -24,7 +24,7 @@ pub(crate) fn get_addresses(input: &Input, at: usize) -> Addresses {
 }
 
 // What a call that may write is given: a ROOM, and the length of the byte string behind it, with the place behind both.
-#[derive(Drop)]
+#[derive(Clone, Copy)]
 pub(crate) struct Given {
     pub(crate) room: usize,
     pub(crate) len: usize,

@@ -14,14 +14,14 @@ use responder::{Responder, ResponderAnswer, ResponderMade, ResponderTurn};
 use responder_row::{Row, RowState, StoredBit};
 
 // The bench's responder, and whether there is one yet.
-#[derive(Drop)]
+#[derive(Clone, Copy)]
 pub(crate) struct ResponderEnd {
     pub(crate) is_made: bool,
     pub(crate) responder: Responder,
 }
 
 // The end after a command, and the place behind its answer.
-#[derive(Drop)]
+#[derive(Clone, Copy)]
 pub(crate) struct ResponderPlayed {
     pub(crate) end: ResponderEnd,
     pub(crate) to: usize,

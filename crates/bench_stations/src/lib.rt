@@ -1,4 +1,6 @@
 // The bench's commands on station lists: `ring`, which tells the whole list, and `ready`, which tells only whether it is ready for the ring.
+#![tactic(auto)]
+
 mod ops;
 mod stations;
 

@@ -3,7 +3,7 @@ use line_text::words::{
     BAD_OP, INPUT, Input, NO_WORD, NOWHERE, behind, byte_behind, byte_word, ended, is_end,
 };
 
-#[derive(Drop)]
+#[derive(Clone, Copy)]
 pub(crate) enum Op {
     Witness(u8, u8),
     Claim,
@@ -12,7 +12,7 @@ pub(crate) enum Op {
 }
 
 // An op, with the place behind it.
-#[derive(Drop)]
+#[derive(Clone, Copy)]
 pub(crate) struct OpWord {
     pub(crate) op: Op,
     pub(crate) next: usize,

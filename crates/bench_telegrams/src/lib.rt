@@ -1,4 +1,6 @@
 // The bench's commands on telegrams: `read`, `sread`, `about`, `fc` and `cycle` in `reading`, those that write in `writing`.
+#![tactic(auto)]
+
 mod reading;
 mod writing;
 

@@ -188,7 +188,7 @@ fn put_written(out: &mut Out, to: usize, byte: u8) -> usize {
 }
 
 // The frame count bit that a line's last word names, or the place that says why it names none.
-#[derive(Drop)]
+#[derive(Clone, Copy)]
 enum FcbRead {
     Is(FrameCountBit),
     Nothing(usize),

@@ -17,7 +17,7 @@ use telegram_tx::{
 };
 
 // The header's fields that `write` is given, and the place behind them.
-#[derive(Drop)]
+#[derive(Clone, Copy)]
 struct Fields {
     da: u8,
     sa: u8,
@@ -28,14 +28,14 @@ struct Fields {
 }
 
 // A SAP or `-`, and the place behind it.
-#[derive(Drop)]
+#[derive(Clone, Copy)]
 struct SapWord {
     sap: SapOption,
     next: usize,
 }
 
 // Two bytes and a ROOM, and the place behind them.
-#[derive(Drop)]
+#[derive(Clone, Copy)]
 struct Pair {
     first: u8,
     second: u8,
@@ -44,7 +44,7 @@ struct Pair {
 }
 
 // What a command sends.
-#[derive(Drop)]
+#[derive(Clone, Copy)]
 enum Sending {
     Data(DataTelegramHeader),
     Token(u8, u8),

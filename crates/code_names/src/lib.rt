@@ -1,5 +1,7 @@
 // The names of function codes as programs print them: those of the library's enums, which are profirust's. Like `line_text`, support code of
 // programs.
+#![tactic(auto)]
+
 use codes::{FrameCountBit, RequestType, ResponseState, ResponseStatus};
 use line_text::answers::{Out, put_name};
 

@@ -1,5 +1,7 @@
 // Prints what each of the 256 bytes is as a function code, a line each, as the decoder of the library reads it, and how many there are of each
 // kind: what is held against the standard's tables and signed.
+#![tactic(auto)]
+
 use code_names::{put_frame_count_bit, put_request_type, put_state, put_status};
 use codes::{
     FrameCountBit, FunctionCode, FunctionCodeFound, RequestType, ResponseState, ResponseStatus,
@@ -9,7 +11,7 @@ use line_text::answers::{Out, flush, flushed, put_bool, put_char, put_hex, put_n
 const BYTES: usize = 256;
 
 // The place behind a line, and of how many bytes each kind has been so far.
-#[derive(Drop)]
+#[derive(Clone, Copy)]
 struct Told {
     to: usize,
     requests: usize,

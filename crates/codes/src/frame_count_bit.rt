@@ -5,7 +5,7 @@ ghost use Rattle.codes.specs.FrameCountBits.{shown_cycled, cycle_of, fcb_of, fcv
 use ground::Refusal;
 
 // Frame Count Bit: it detects lost messages and prevents duplication on either side.
-#[derive(Drop)]
+#[derive(Clone, Copy)]
 pub enum FrameCountBit {
     First,
     High,
@@ -14,7 +14,7 @@ pub enum FrameCountBit {
 }
 
 // The bit after a cycle, or refusal 15.
-#[derive(Drop)]
+#[derive(Clone, Copy)]
 pub enum Cycled {
     Next(FrameCountBit),
     Refused(Refusal),

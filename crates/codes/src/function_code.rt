@@ -12,7 +12,7 @@ use crate::frame_count_bit::FrameCountBit;
 use crate::request_type::{RequestType, RequestTypeFound};
 use crate::response::{ResponseState, ResponseStateFound, ResponseStatus, ResponseStatusFound};
 
-#[derive(Drop)]
+#[derive(Clone, Copy)]
 pub enum FunctionCode {
     // This marks a request telegram
     Request {
@@ -27,14 +27,14 @@ pub enum FunctionCode {
 }
 
 // The function code of a byte, or nothing where the byte is not read.
-#[derive(Drop)]
+#[derive(Clone, Copy)]
 pub enum FunctionCodeFound {
     Is(FunctionCode),
     Nothing,
 }
 
 // Whether a reply is expected to the function code of a byte, or nothing where the byte is not read.
-#[derive(Drop)]
+#[derive(Clone, Copy)]
 pub enum ReplyFound {
     Is(bool),
     Nothing,

@@ -1,4 +1,6 @@
 // The codes of a PROFIBUS telegram: what profirust's consts.rs and telegram.rs up to `FunctionCode` have.
+#![tactic(auto)]
+
 pub mod consts;
 pub mod frame_check;
 pub mod frame_count_bit;

@@ -2,7 +2,7 @@
 ghost use Rattle.std.specs.Prelude.{◌≡◌};
 ghost use Rattle.codes.specs.RequestTypes.{request_number, request_type_of, expects_reply};
 
-#[derive(Drop)]
+#[derive(Clone, Copy)]
 pub enum RequestType {
     // Clock value
     ClockValue,
@@ -31,7 +31,7 @@ pub enum RequestType {
 }
 
 // The request type of a number, or nothing where the number has none.
-#[derive(Drop)]
+#[derive(Clone, Copy)]
 pub enum RequestTypeFound {
     Is(RequestType),
     Nothing,

@@ -2,7 +2,7 @@
 ghost use Rattle.std.specs.Prelude.{◌≡◌};
 ghost use Rattle.codes.specs.Responses.{state_number, state_of, status_number, status_of};
 
-#[derive(Drop)]
+#[derive(Clone, Copy)]
 pub enum ResponseState {
     // Slave
     Slave,
@@ -15,7 +15,7 @@ pub enum ResponseState {
 }
 
 // The state of a number, or nothing where the number has none.
-#[derive(Drop)]
+#[derive(Clone, Copy)]
 pub enum ResponseStateFound {
     Is(ResponseState),
     Nothing,
@@ -47,7 +47,7 @@ impl ResponseState {
     }
 }
 
-#[derive(Drop)]
+#[derive(Clone, Copy)]
 pub enum ResponseStatus {
     // OK
     Ok,
@@ -70,7 +70,7 @@ pub enum ResponseStatus {
 }
 
 // The status of a number, or nothing where the number has none.
-#[derive(Drop)]
+#[derive(Clone, Copy)]
 pub enum ResponseStatusFound {
     Is(ResponseStatus),
     Nothing,

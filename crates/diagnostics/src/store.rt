@@ -6,13 +6,13 @@ use ground::copy_to_front;
 
 // Container for extended diagnostics data: how many bytes at the front of the store that the caller lends are
 // diagnostics. Any number is answered; one above the store's length counts as the store's.
-#[derive(Drop)]
+#[derive(Clone, Copy)]
 pub struct ExtendedDiagnostics {
     pub length: usize,
 }
 
 // What filling a store leaves: whether it took the data, and the container as it then is.
-#[derive(Drop)]
+#[derive(Clone, Copy)]
 pub struct Filled {
     pub filled: bool,
     pub diag: ExtendedDiagnostics,

@@ -10,7 +10,7 @@ use diagnostics_blocks::ChannelDiagnostics;
 use ground::{Part, Refusal};
 
 // One extended diagnostics block. A body is the part of what is walked that it says: `body.show(diag.raw_diag_buffer(buffer))`.
-#[derive(Drop)]
+#[derive(Clone, Copy)]
 pub enum ExtDiagBlock {
     // Identifier-based diagnostics: a bit for each module, set where the module reports a problem.
     Identifier(Part),
@@ -21,7 +21,7 @@ pub enum ExtDiagBlock {
 }
 
 // What a step of the walk finds.
-#[derive(Drop)]
+#[derive(Clone, Copy)]
 pub enum Found {
     Block(ExtDiagBlock),
     End,
@@ -29,14 +29,14 @@ pub enum Found {
 }
 
 // A step of the walk: what it found, and where the walk goes on.
-#[derive(Drop)]
+#[derive(Clone, Copy)]
 pub struct Step {
     pub found: Found,
     pub iter: ExtDiagBlockIter,
 }
 
 // Iterator over the blocks of a store, by value. Any number is answered as a cursor.
-#[derive(Drop)]
+#[derive(Clone, Copy)]
 pub struct ExtDiagBlockIter {
     pub cursor: usize,
 }

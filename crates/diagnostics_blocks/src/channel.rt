@@ -4,7 +4,7 @@ ghost use Rattle.diagnostics_blocks.specs.Channel.{channel_of, error_of, error_n
 ghost use Rattle.diagnostics_blocks.specs.Shown.{shown_channel, shown_error, shown_type};
 
 // Data type for a channel of a module.
-#[derive(Drop)]
+#[derive(Clone, Copy)]
 pub enum ChannelDataType {
     Bit,
     Bit2,
@@ -49,7 +49,7 @@ impl ChannelDataType {
 }
 
 // Error diagnosed at a channel of a module.
-#[derive(Drop)]
+#[derive(Clone, Copy)]
 pub enum ChannelError {
     ShortCircuit,
     UnderVoltage,
@@ -106,7 +106,7 @@ impl ChannelError {
 }
 
 // Diagnostic information for a module channel.
-#[derive(Drop)]
+#[derive(Clone, Copy)]
 pub struct ChannelDiagnostics {
     // Module where the problem was reported: its index in the configuration telegram.
     pub module: u8,

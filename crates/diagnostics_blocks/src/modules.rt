@@ -9,7 +9,7 @@ ghost use Rattle.diagnostics_blocks.specs.Shown.{shown_module};
 pub const MODULES: usize = 496;
 
 // The first module with its bit set, from where it was looked for.
-#[derive(Drop)]
+#[derive(Clone, Copy)]
 pub enum Module {
     At(usize),
     Nothing,

@@ -1,5 +1,7 @@
 // The diagnostics store and its walk for programs in other languages: enums become numbers here. Promises: the definitions of specs/Calls.antt that
 // are named like the calls.
+#![tactic(auto)]
+
 ghost use Rattle.std.specs.Prelude.{◌≡◌, [], ◌∷◌, ℕ};
 ghost use Rattle.ground.specs.Bits.{digit};
 ghost use Rattle.diagnostics_blocks.specs.Shown.{shown_channel, shown_type};

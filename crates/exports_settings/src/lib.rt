@@ -1,5 +1,7 @@
 // The settings text for programs in other languages: enums become numbers here. Promises: `koy_settings_read`, `koy_settings_write` in
 // specs/Calls.antt.
+#![tactic(auto)]
+
 ghost use Rattle.std.specs.Prelude.{◌≡◌, List, [], ◌∷◌, ℕ};
 ghost use Rattle.settings.specs.Writing.{shown_written};
 ghost use Rattle.exports_settings.specs.Calls.{koy_settings_read, koy_settings_write, write_call};

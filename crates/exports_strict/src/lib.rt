@@ -1,5 +1,7 @@
 // Reading in strict mode for programs in other languages. Promise: `koy_read_strict` in specs/Calls.antt. It is a crate, and so an object, of its
 // own: beside `koy_read` in one object it would be a second caller of the reader, which then would not be compiled into `koy_read`.
+#![tactic(auto)]
+
 ghost use Rattle.std.specs.Prelude.{◌≡◌};
 ghost use Rattle.exports_strict.specs.Calls.{koy_read_strict};
 

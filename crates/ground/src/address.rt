@@ -1,9 +1,9 @@
 // Station address and service access point: a byte each, and neither compiles where the other is wanted.
 
 // A station's address on the segment.
-#[derive(Drop)]
+#[derive(Clone, Copy)]
 pub struct Address(pub u8);
 
 // A service access point of a station.
-#[derive(Drop)]
+#[derive(Clone, Copy)]
 pub struct Sap(pub u8);

@@ -3,7 +3,7 @@ ghost use Rattle.std.specs.Prelude.{◌≡◌};
 ghost use Rattle.ground.specs.Refusals.{number_of, shown};
 
 // Every refusal that a call can answer, in the order of its number. specs/Refusals.antt says when each is given.
-#[derive(Drop)]
+#[derive(Clone, Copy)]
 pub enum Refusal {
     UnknownStart,
     LengthsDiffer,
@@ -61,7 +61,7 @@ impl Refusal {
 }
 
 // The answer of a call that does what it is asked, or refuses it.
-#[derive(Drop)]
+#[derive(Clone, Copy)]
 pub enum Answer {
     Done,
     Refused(Refusal),

@@ -5,47 +5,59 @@ use Rattle.initiator.proofs.ShownLaws.{made_injective, parts_injective, turn_inj
 use Rattle.ground.proofs.DeterminedLaws.{same, fixed, seen, turned}
 use Rattle.ground.specs.Determined.{Determined}
 use Rattle.initiator.specs.contracts.head.InitiatorHead.hear as head_hear
-use Rattle.initiator.proofs.head.InitiatorHead.order_len as head_order_len
+use Rattle.initiator.specs.contracts.head.InitiatorHead.order_len as head_order_len
+use Rattle.initiator.proofs.head.InitiatorHead.order_len.Reads as head_order_len_reads
 use Rattle.initiator.specs.contracts.head.InitiatorHead.restart as head_restart
 use Rattle.initiator.specs.contracts.head.InitiatorHead.silence as head_silence
 use Rattle.initiator.specs.contracts.head.InitiatorHead.submit as head_submit
 use Rattle.initiator.specs.contracts.state.Initiator.hear as initiator_hear
-use Rattle.initiator.proofs.state.Initiator.new as initiator_new
-use Rattle.initiator.proofs.state.Initiator.order as order
-use Rattle.initiator.proofs.state.Initiator.order_len as order_len
-use Rattle.initiator.proofs.state.Initiator.own as initiator_own
-use Rattle.initiator.proofs.state.Initiator.peer as initiator_peer
-use Rattle.initiator.proofs.state.Initiator.phase as phase
+use Rattle.initiator.specs.contracts.state.Initiator.new as initiator_new
+use Rattle.initiator.proofs.state.Initiator.new.Reads as initiator_new_reads
+use Rattle.initiator.specs.contracts.state.Initiator.order as order
+use Rattle.initiator.proofs.state.Initiator.order.Reads as order_reads
+use Rattle.initiator.specs.contracts.state.Initiator.order_len as order_len
+use Rattle.initiator.proofs.state.Initiator.order_len.Reads as order_len_reads
+use Rattle.initiator.specs.contracts.state.Initiator.own as initiator_own
+use Rattle.initiator.proofs.state.Initiator.own.Reads as initiator_own_reads
+use Rattle.initiator.specs.contracts.state.Initiator.peer as initiator_peer
+use Rattle.initiator.proofs.state.Initiator.peer.Reads as initiator_peer_reads
+use Rattle.initiator.specs.contracts.state.Initiator.phase as phase
+use Rattle.initiator.proofs.state.Initiator.phase.Reads as phase_reads
 use Rattle.initiator.specs.contracts.state.Initiator.restart as initiator_restart
 use Rattle.initiator.specs.contracts.state.Initiator.silence as silence
 use Rattle.initiator.specs.contracts.state.Initiator.submit as submit
-use Rattle.initiator.proofs.state.Initiator.tries as tries
-use Rattle.initiator.proofs.state.Initiator.with_default_tries as with_default_tries
-use Rattle.initiator.proofs.state.Phase.frame_count_bit as phase_frame_count_bit
-use Rattle.initiator.proofs.state.Phase.is_pending as is_pending
-use Rattle.initiator.proofs.state.Phase.tries_used as tries_used
+use Rattle.initiator.specs.contracts.state.Initiator.tries as tries
+use Rattle.initiator.proofs.state.Initiator.tries.Reads as tries_reads
+use Rattle.initiator.specs.contracts.state.Initiator.with_default_tries as with_default_tries
+use Rattle.initiator.proofs.state.Initiator.with_default_tries.Reads as with_default_tries_reads
+use Rattle.initiator.specs.contracts.state.Phase.frame_count_bit as phase_frame_count_bit
+use Rattle.initiator.proofs.state.Phase.frame_count_bit.Reads as phase_frame_count_bit_reads
+use Rattle.initiator.specs.contracts.state.Phase.is_pending as is_pending
+use Rattle.initiator.proofs.state.Phase.is_pending.Reads as is_pending_reads
+use Rattle.initiator.specs.contracts.state.Phase.tries_used as tries_used
+use Rattle.initiator.proofs.state.Phase.tries_used.Reads as tries_used_reads
 
 pub record Calls : Type 0 where
-  pub initiator_new : Determined initiator_new.ended initiator_new.Reads.Learnt
-  pub with_default_tries : Determined with_default_tries.ended with_default_tries.Reads.Learnt
+  pub initiator_new : Determined initiator_new.ended initiator_new_reads.Learnt
+  pub with_default_tries : Determined with_default_tries.ended with_default_tries_reads.Learnt
   pub head_submit : Determined head_submit.ended head_submit.Reads.Learnt
   pub head_silence : Determined head_silence.ended head_silence.Reads.Learnt
   pub head_hear : Determined head_hear.ended head_hear.Reads.Learnt
   pub head_restart : Determined head_restart.ended head_restart.Reads.Learnt
-  pub head_order_len : Determined head_order_len.ended head_order_len.Reads.Learnt
+  pub head_order_len : Determined head_order_len.ended head_order_len_reads.Learnt
   pub submit : Determined submit.ended submit.Reads.Learnt
   pub silence : Determined silence.ended silence.Reads.Learnt
   pub initiator_hear : Determined initiator_hear.ended initiator_hear.Reads.Learnt
   pub initiator_restart : Determined initiator_restart.ended initiator_restart.Reads.Learnt
-  pub order : Determined order.ended order.Reads.Learnt
-  pub initiator_own : Determined initiator_own.ended initiator_own.Reads.Learnt
-  pub initiator_peer : Determined initiator_peer.ended initiator_peer.Reads.Learnt
-  pub tries : Determined tries.ended tries.Reads.Learnt
-  pub phase : Determined phase.ended phase.Reads.Learnt
-  pub order_len : Determined order_len.ended order_len.Reads.Learnt
-  pub is_pending : Determined is_pending.ended is_pending.Reads.Learnt
-  pub tries_used : Determined tries_used.ended tries_used.Reads.Learnt
-  pub phase_frame_count_bit : Determined phase_frame_count_bit.ended phase_frame_count_bit.Reads.Learnt
+  pub order : Determined order.ended order_reads.Learnt
+  pub initiator_own : Determined initiator_own.ended initiator_own_reads.Learnt
+  pub initiator_peer : Determined initiator_peer.ended initiator_peer_reads.Learnt
+  pub tries : Determined tries.ended tries_reads.Learnt
+  pub phase : Determined phase.ended phase_reads.Learnt
+  pub order_len : Determined order_len.ended order_len_reads.Learnt
+  pub is_pending : Determined is_pending.ended is_pending_reads.Learnt
+  pub tries_used : Determined tries_used.ended tries_used_reads.Learnt
+  pub phase_frame_count_bit : Determined phase_frame_count_bit.ended phase_frame_count_bit_reads.Learnt
 
 pub determined : Calls
 determined =

@@ -2,7 +2,7 @@ use crate::state::Initiator;
 use ground::{Part, Refusal};
 
 // What a call says. An outcome reports the tries of its last phase: the telegrams written in it.
-#[derive(Drop)]
+#[derive(Clone, Copy)]
 pub enum InitiatorAnswer {
     // A telegram of so many bytes stands at the front of the buffer.
     Sent(usize),
@@ -16,7 +16,7 @@ pub enum InitiatorAnswer {
     Refused(Refusal),
 }
 
-#[derive(Drop)]
+#[derive(Clone, Copy)]
 pub struct InitiatorTurn {
     pub answer: InitiatorAnswer,
     pub initiator: Initiator,

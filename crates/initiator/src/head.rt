@@ -14,7 +14,7 @@ use link_telegrams::{Bit, opening_header, order_header};
 use telegram::DataTelegramHeader;
 use telegram_tx::{TelegramTxResult, send_data_telegram};
 
-#[derive(Drop)]
+#[derive(Clone, Copy)]
 pub struct InitiatorHead {
     pub link: Link,
     pub tries: u8,
@@ -24,7 +24,7 @@ pub struct InitiatorHead {
 }
 
 // What a call on a head says, and what of the head is another now: its link and its tries never change.
-#[derive(Drop)]
+#[derive(Clone, Copy)]
 pub struct InitiatorHeadTurn {
     pub answer: InitiatorAnswer,
     pub phase: Phase,

@@ -1,4 +1,6 @@
 // The initiator of the order link: it opens the link, sends an order, and reports what became of it.
+#![tactic(auto)]
+
 pub mod answer;
 pub mod by_value;
 pub mod calls;

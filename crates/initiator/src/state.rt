@@ -9,7 +9,7 @@ use link_rules::{DEFAULT_TRIES, LONGEST, Link, wrong_addresses, wrong_tries};
 use link_telegrams::Bit;
 
 // What the link is about. An order is pending in the last two.
-#[derive(Drop)]
+#[derive(Clone, Copy)]
 pub enum Phase {
     // Nothing pending, closed with First.
     Closed,
@@ -21,7 +21,7 @@ pub enum Phase {
     Order(Bit, u8),
 }
 
-#[derive(Drop)]
+#[derive(Clone, Copy)]
 pub struct Initiator {
     pub(crate) link: Link,
     pub(crate) tries: u8,
@@ -31,7 +31,7 @@ pub struct Initiator {
     pub(crate) len: usize,
 }
 
-#[derive(Drop)]
+#[derive(Clone, Copy)]
 pub struct InitiatorMade {
     pub answer: Answer,
     pub initiator: Initiator,

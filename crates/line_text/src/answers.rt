@@ -14,7 +14,7 @@ pub type Out = [u8; 65536];
 const FULL: usize = 32768;
 
 // What a subject of commands makes of a line: its answer, up to this place, or nothing, since the line's first word is none of its names.
-#[derive(Drop)]
+#[derive(Clone, Copy)]
 pub enum Answered {
     Until(usize),
     NotNamed,

@@ -37,7 +37,7 @@ fn digit_value(b: u8) -> u8
 }
 
 // The byte of two digits, where both are digits.
-#[derive(Drop)]
+#[derive(Clone, Copy)]
 pub enum Pair {
     Is(u8),
     Nothing,

@@ -40,21 +40,21 @@ pub const LINE_TOO_LONG: usize = NOWHERE + 10;
 const LARGEST: u32 = 4294967295;
 
 // A number, or the length of a byte string, with the place behind it.
-#[derive(Drop)]
+#[derive(Clone, Copy)]
 pub struct Word {
     pub value: usize,
     pub next: usize,
 }
 
 // A byte in decimal, with the place behind it.
-#[derive(Drop)]
+#[derive(Clone, Copy)]
 pub struct ByteWord {
     pub value: u8,
     pub next: usize,
 }
 
 // A word of a list of names: its number there, and the place behind it.
-#[derive(Drop)]
+#[derive(Clone, Copy)]
 pub struct Named {
     pub number: usize,
     pub next: usize,

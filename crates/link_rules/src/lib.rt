@@ -1,5 +1,7 @@
 // What an order link asks of its two addresses, of its tries, of an order's length and of a lent buffer. Both ends and the settings
 // text go by it. Promises: `specs/Rules.antt`.
+#![tactic(auto)]
+
 pub mod link;
 
 ghost use Rattle.std.specs.Prelude.{◌≡◌};

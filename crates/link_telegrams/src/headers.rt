@@ -7,7 +7,7 @@ use link_rules::Link;
 use telegram::{DataTelegramHeader, SapOption};
 
 // The frame count bit of an order, FCV being set.
-#[derive(Drop)]
+#[derive(Clone, Copy)]
 pub enum Bit {
     Low,
     High,

@@ -26,14 +26,14 @@ const DATA_LOW: u8 = 0x08;
 
 // What heard bytes are to a station: one data telegram to it without SAPs that fills them, by its sender, its code's byte and its PDU,
 // or nothing. Whether the byte is one of a code is left open: an end looks for a few codes alone.
-#[derive(Drop)]
+#[derive(Clone, Copy)]
 enum PlainHeard {
     From(Address, u8, Part),
     Nothing,
 }
 
 // What heard bytes are to a responder.
-#[derive(Drop)]
+#[derive(Clone, Copy)]
 pub enum RequestHeard {
     Opening,
     Order(Bit, Part),
@@ -41,14 +41,14 @@ pub enum RequestHeard {
 }
 
 // A request SRD low to a station: who sent it, and what it is to a responder.
-#[derive(Drop)]
+#[derive(Clone, Copy)]
 pub enum RequestTo {
     From(Address, RequestHeard),
     Nothing,
 }
 
 // What heard bytes are to an initiator.
-#[derive(Drop)]
+#[derive(Clone, Copy)]
 pub enum ReplyHeard {
     Ok,
     Reply(Part),

@@ -1,5 +1,7 @@
 // The order link's telegrams: which headers they have, and what heard bytes are to an end of the link. What the link does with
 // them is in the crates above, in the words of `specs/Turns.antt`; no rule of the link there names SRD low, Slave, Ok or DataLow.
+#![tactic(auto)]
+
 pub mod headers;
 pub mod heard;
 

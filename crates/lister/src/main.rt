@@ -1,4 +1,6 @@
 // Lists the telegrams of standard input on standard output. Promise: `output_of` of crate `listing`, in `put_output`.
+#![tactic(auto)]
+
 ghost use Rattle.std.specs.Prelude.{◌≡◌, ◌≤◌, length};
 ghost use Rattle.listing.specs.Answers.{text_in};
 ghost use Rattle.listing.specs.Listing.{listing_room, output_of};
@@ -11,7 +13,7 @@ use listing::{LISTING_ROOM, Listed};
 const INPUT_ROOM: usize = 4097;
 
 // What one read found: so many bytes, the end of the input, or that it failed.
-#[derive(Drop)]
+#[derive(Clone, Copy)]
 enum More {
     Bytes(usize),
     End,
@@ -19,7 +21,7 @@ enum More {
 }
 
 // How many bytes were read in all.
-#[derive(Drop)]
+#[derive(Clone, Copy)]
 enum Input {
     Bytes(usize),
     Failed,

@@ -1,5 +1,7 @@
 // The lister's text for the captures of samples/, which stand on standard input one after the other, then for inputs of every kind, and its
 // calls around their limits, held to the stored output.
+#![tactic(auto)]
+
 use ground::Part;
 use libc::{STDIN_FILENO, STDOUT_FILENO};
 use listing::{LISTING_ROOM, Listed};

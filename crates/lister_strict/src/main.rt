@@ -1,5 +1,7 @@
 // Lists the telegrams of standard input in strict mode: the lister's lines up to the first telegram that strict mode refuses. Promise: `output_in` of crate
 // `listing`, in `put_output`.
+#![tactic(auto)]
+
 ghost use Rattle.std.specs.Prelude.{◌≡◌, ◌≤◌, length};
 ghost use Rattle.listing.specs.Answers.{text_in};
 ghost use Rattle.listing.specs.Listing.{listing_room, output_in};

@@ -1,5 +1,7 @@
 // Lists the telegrams of standard input as the lister does, with each telegram in words below its line. The lister's lines are the text that
 // crate `listing` makes, unchanged; the words are what the same reader reads.
+#![tactic(auto)]
+
 mod words;
 
 use crate::words::put_telegram;
@@ -15,7 +17,7 @@ use telegram::{Deserialized, Telegram};
 const INPUT_ROOM: usize = 4097;
 
 // The place behind a telegram of the input, and the place behind its words in the output.
-#[derive(Drop)]
+#[derive(Clone, Copy)]
 struct Told {
     at: usize,
     to: usize,

@@ -3,18 +3,23 @@ use mathlib.Core.Path.{refl}
 use Rattle.ground.proofs.DeterminedLaws.{gives, shows}
 use Rattle.ground.specs.Determined.{Determined, ShownDetermined}
 use Rattle.listing.proofs.AnswerLaws.{shown_listed_injective}
-use Rattle.listing.proofs.whole.Listed.text as listed_text
-use Rattle.listing.proofs.whole.list as list
-use Rattle.listing.proofs.whole.list_in as list_in
-use Rattle.listing.proofs.whole.output as output
-use Rattle.listing.proofs.whole.output_in as output_in
+use Rattle.listing.specs.contracts.whole.Listed.text as listed_text
+use Rattle.listing.proofs.whole.Listed.text.Reads as listed_text_reads
+use Rattle.listing.specs.contracts.whole.list as list
+use Rattle.listing.proofs.whole.list.Reads as list_reads
+use Rattle.listing.specs.contracts.whole.list_in as list_in
+use Rattle.listing.proofs.whole.list_in.Reads as list_in_reads
+use Rattle.listing.specs.contracts.whole.output as output
+use Rattle.listing.proofs.whole.output.Reads as output_reads
+use Rattle.listing.specs.contracts.whole.output_in as output_in
+use Rattle.listing.proofs.whole.output_in.Reads as output_in_reads
 
 pub record Calls : Type 0 where
-  pub list : Determined list.ended list.Reads.Learnt
-  pub list_in : Determined list_in.ended list_in.Reads.Learnt
-  pub output_in : Determined output_in.ended output_in.Reads.Learnt
-  pub output : Determined output.ended output.Reads.Learnt
-  pub listed_text : ShownDetermined listed_text.ended (λ κs. (λ x. x.now)) listed_text.Reads.Learnt
+  pub list : Determined list.ended list_reads.Learnt
+  pub list_in : Determined list_in.ended list_in_reads.Learnt
+  pub output_in : Determined output_in.ended output_in_reads.Learnt
+  pub output : Determined output.ended output_reads.Learnt
+  pub listed_text : ShownDetermined listed_text.ended (λ κs. (λ x. x.now)) listed_text_reads.Learnt
 
 pub determined : Calls
 determined =

@@ -19,7 +19,7 @@ pub const INPUT_LIMIT: usize = 4096;
 pub const LISTING_ROOM: usize = 237596;
 
 // The length of the text that a call made at the buffer's front.
-#[derive(Drop)]
+#[derive(Clone, Copy)]
 pub enum Listed {
     Text(usize),
     Refused(Refusal),

@@ -5,13 +5,13 @@ ghost use Rattle.text.specs.Decimal.{decimal_of};
 ghost use Rattle.listing_lines.specs.Lines.{figure_of, kind_field, place_of, header_of, content_of, line_of, end_name, end_of, shown_end, item_text};
 
 // A figure of a line, `-` where it is absent.
-#[derive(Drop)]
+#[derive(Clone, Copy)]
 pub enum Figure {
     Number(usize),
     Absent,
 }
 
-#[derive(Drop)]
+#[derive(Clone, Copy)]
 pub enum Kind {
     Ack,
     Token,
@@ -19,7 +19,7 @@ pub enum Kind {
 }
 
 // What the line of a telegram says.
-#[derive(Drop)]
+#[derive(Clone, Copy)]
 pub struct Line {
     pub at: usize,
     pub kind: Kind,
@@ -33,7 +33,7 @@ pub struct Line {
 }
 
 // Why the listing ends; a refusal by its number.
-#[derive(Drop)]
+#[derive(Clone, Copy)]
 pub enum End {
     Done,
     Incomplete,
@@ -41,7 +41,7 @@ pub enum End {
 }
 
 // What is listed at a place of the input: the line of the telegram that starts there, or that the listing ends.
-#[derive(Drop)]
+#[derive(Clone, Copy)]
 pub enum Item {
     Telegram(Line),
     Last(End, usize),

@@ -2,7 +2,7 @@ use crate::state::Responder;
 use ground::{Part, Refusal};
 
 // What a call says.
-#[derive(Drop)]
+#[derive(Clone, Copy)]
 pub enum ResponderAnswer {
     // A telegram of so many bytes stands at the front of the buffer.
     Sent(usize),
@@ -12,7 +12,7 @@ pub enum ResponderAnswer {
     Refused(Refusal),
 }
 
-#[derive(Drop)]
+#[derive(Clone, Copy)]
 pub struct ResponderTurn {
     pub answer: ResponderAnswer,
     pub responder: Responder,

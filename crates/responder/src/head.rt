@@ -11,13 +11,13 @@ use link_telegrams::request_heard;
 use responder_row::RowHead;
 
 // All of a responder but the held bytes.
-#[derive(Drop)]
+#[derive(Clone, Copy)]
 pub struct ResponderHead {
     pub link: Link,
     pub row: RowHead,
 }
 
-#[derive(Drop)]
+#[derive(Clone, Copy)]
 pub struct ResponderHeadTurn {
     pub answer: ResponderAnswer,
     pub head: ResponderHead,

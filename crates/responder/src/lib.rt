@@ -1,4 +1,6 @@
 // The responder of the order link: it answers an opening, hands each new order up once, and repeats the held reply.
+#![tactic(auto)]
+
 pub mod answer;
 pub mod calls;
 pub mod head;

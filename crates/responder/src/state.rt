@@ -7,13 +7,13 @@ use ground::{Address, Answer, Refusal};
 use link_rules::{Link, wrong_addresses};
 use responder_row::Row;
 
-#[derive(Drop)]
+#[derive(Clone, Copy)]
 pub struct Responder {
     pub(crate) link: Link,
     pub(crate) row: Row,
 }
 
-#[derive(Drop)]
+#[derive(Clone, Copy)]
 pub struct ResponderMade {
     pub answer: Answer,
     pub responder: Responder,

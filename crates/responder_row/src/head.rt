@@ -7,20 +7,20 @@ use ground::{Answer, Part, Refusal};
 use link_rules::{LONGEST, wrong_length};
 use link_telegrams::{Bit, RequestHeard};
 
-#[derive(Drop)]
+#[derive(Clone, Copy)]
 pub struct RowHead {
     pub state: RowState,
     // The held reply is the first `len` of the lent bytes. What drops it sets `len` to 0 and leaves the bytes.
     pub len: usize,
 }
 
-#[derive(Drop)]
+#[derive(Clone, Copy)]
 pub struct RowTurn {
     pub action: RowAction,
     pub head: RowHead,
 }
 
-#[derive(Drop)]
+#[derive(Clone, Copy)]
 pub struct RowAnswered {
     pub answer: Answer,
     pub head: RowHead,

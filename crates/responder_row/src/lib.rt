@@ -1,4 +1,6 @@
 // What a responder remembers of one initiator, and what a heard request and an answer do to that.
+#![tactic(auto)]
+
 pub mod head;
 pub mod row;
 

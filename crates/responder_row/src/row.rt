@@ -9,7 +9,7 @@ use link_rules::LONGEST;
 use link_telegrams::Bit;
 
 // What a responder remembers of one initiator.
-#[derive(Drop)]
+#[derive(Clone, Copy)]
 pub enum RowState {
     // No stored bit.
     Blank,
@@ -21,7 +21,7 @@ pub enum RowState {
     Holds(Bit),
 }
 
-#[derive(Drop)]
+#[derive(Clone, Copy)]
 pub struct Row {
     pub(crate) state: RowState,
     // The held reply is the first `len` bytes. What drops it sets `len` to 0 and leaves the array.
@@ -30,14 +30,14 @@ pub struct Row {
 }
 
 // The stored bit of a row: document 01's bit 1 is High.
-#[derive(Drop)]
+#[derive(Clone, Copy)]
 pub enum StoredBit {
     Is(Bit),
     Nothing,
 }
 
 // What a heard telegram asks of the responder: to write the opening's reply or the held one, to hand an order up, or nothing.
-#[derive(Drop)]
+#[derive(Clone, Copy)]
 pub enum RowAction {
     WriteOk,
     WriteHeld,

@@ -1,5 +1,7 @@
 // A caller of the station list, with a list in a local of its own: document 01's first sample, played, checked and printed. The list is changed
 // as a bus driver changes it, through the calls that it is lent to. What is checked is proved from the promises of the calls alone.
+#![tactic(auto)]
+
 ghost use Rattle.std.specs.Prelude.{◌≡◌};
 ghost use Rattle.ground.specs.Refusals.{shown};
 ghost use Rattle.token_ring.specs.Rules.{claimed, station_answer, witnessed};

@@ -1,5 +1,7 @@
 // The bus driver lends its one station list and finds it changed: thin calls, each of which moves the list through the by-value method of
 // `token_ring`. Promises: `witnessed`, `claimed`, `next_set` and `removed` in `token_ring`'s specs/Rules.antt, as of the methods.
+#![tactic(auto)]
+
 ghost use Rattle.std.specs.Prelude.{◌≡◌};
 ghost use Rattle.token_ring.specs.Promises.{Gives};
 ghost use Rattle.token_ring.specs.Rules.{claimed, next_set, removed, station_answer, witnessed};

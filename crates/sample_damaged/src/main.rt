@@ -1,5 +1,7 @@
 // Prints the capture on standard input with the byte in its middle altered, as by a disturbance. In the sample capture that byte lies
 // within a data telegram, whose checksum then fails. samples/damaged.bin is what it prints for samples/segment.bin.
+#![tactic(auto)]
+
 use ground::Part;
 use libc::{STDIN_FILENO, STDOUT_FILENO};
 

@@ -1,6 +1,8 @@
 // Prints the capture on standard input as it is recorded behind sloppy couplers. The coupler of drive 12 clears the fourth byte of the SD2 telegrams that
 // it lets through; at the end cabinet 5 is asked for its state, and its coupler sends the response as an SD2 telegram of L 3. Document 01's mode
 // reads all of it, strict mode stops at the first such telegram. samples/sloppy.bin is what it prints for samples/segment.bin.
+#![tactic(auto)]
+
 use codes::consts;
 use ground::Part;
 use libc::{STDIN_FILENO, STDOUT_FILENO};

@@ -1,5 +1,7 @@
 // Plays scenes of the order link. The scenes' names stand on standard input, one a line; an empty line is passed over. (The scene with the
 // guarded ends is a program of its own, `slow_cabinet_by_number`.)
+#![tactic(auto)]
+
 mod accident;
 mod cabinet_restart;
 mod dead_line;

@@ -4,12 +4,14 @@ use Rattle.ground.proofs.DeterminedLaws.{gives, seen}
 use Rattle.ground.specs.Determined.{Determined}
 use Rattle.settings.proofs.ReadingLaws.{shown_read_injective}
 use Rattle.settings.proofs.WritingLaws.{shown_written_injective}
-use Rattle.settings.proofs.settings.read_settings as read_settings
-use Rattle.settings.proofs.settings.write_settings as write_settings
+use Rattle.settings.specs.contracts.settings.read_settings as read_settings
+use Rattle.settings.proofs.settings.read_settings.Reads as read_settings_reads
+use Rattle.settings.specs.contracts.settings.write_settings as write_settings
+use Rattle.settings.proofs.settings.write_settings.Reads as write_settings_reads
 
 pub record Calls : Type 0 where
-  pub read_settings : Determined read_settings.ended read_settings.Reads.Learnt
-  pub write_settings : Determined write_settings.ended write_settings.Reads.Learnt
+  pub read_settings : Determined read_settings.ended read_settings_reads.Learnt
+  pub write_settings : Determined write_settings.ended write_settings_reads.Learnt
 
 pub determined : Calls
 determined =

@@ -1,4 +1,6 @@
 // The settings text of an order link: `own=2`, `peer=5`, `tries=2`, read and written.
+#![tactic(auto)]
+
 mod line;
 pub mod settings;
 

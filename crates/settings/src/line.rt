@@ -6,7 +6,7 @@ ghost use Rattle.text.specs.Placed.{Placed};
 use text::Number;
 
 // A line `name=number` that was read, with the place behind its line feed.
-#[derive(Drop)]
+#[derive(Clone, Copy)]
 pub enum Line {
     Number { value: u8, next: usize },
     Nothing,

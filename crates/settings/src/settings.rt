@@ -12,7 +12,7 @@ use ground::{Address, Answer, Refusal};
 use link_rules::{Link, wrong_addresses, wrong_tries};
 
 // The two ends of an order link, and how often a telegram is tried.
-#[derive(Drop)]
+#[derive(Clone, Copy)]
 pub struct Settings {
     pub own: Address,
     pub peer: Address,
@@ -20,21 +20,21 @@ pub struct Settings {
 }
 
 // What was read.
-#[derive(Drop)]
+#[derive(Clone, Copy)]
 pub enum SettingsRead {
     Read(Settings),
     Refused(Refusal),
 }
 
 // How many bytes were written.
-#[derive(Drop)]
+#[derive(Clone, Copy)]
 pub enum SettingsWritten {
     Written(usize),
     Refused(Refusal),
 }
 
 // The three numbers of a text of the right form.
-#[derive(Drop)]
+#[derive(Clone, Copy)]
 enum Form {
     Numbers { own: u8, peer: u8, tries: u8 },
     Nothing,

@@ -4,6 +4,8 @@
 //
 // The ends are called as a driver in C calls them: records and guards as lent arrays, a stamp with each call. The stamps are a count of
 // what happens on the line. It is a program of its own, above the guarded calls, so that the other scenes need not wait for those.
+#![tactic(auto)]
+
 use exports_guarded::guarded_initiator::{
     koy_guarded_initiator_hear, koy_guarded_initiator_new, koy_guarded_initiator_silence,
     koy_guarded_initiator_submit,
@@ -16,7 +18,7 @@ use line_text::bytes::front;
 use line_text::printing::{print, print_number};
 use stage::telling::{print_bytes, print_sent};
 
-#[derive(Drop)]
+#[derive(Clone, Copy)]
 struct Plant {
     head_end: [u8; 252],
     last: [usize; 1],

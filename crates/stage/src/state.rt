@@ -8,7 +8,7 @@ use link_rules::Link;
 use responder::{Responder, ResponderAnswer};
 
 // What has happened so far. A number stops at 255.
-#[derive(Drop)]
+#[derive(Clone, Copy)]
 pub struct Tally {
     // Orders that a submission took.
     pub orders: u8,
@@ -19,7 +19,7 @@ pub struct Tally {
     pub carried_out: u8,
 }
 
-#[derive(Drop)]
+#[derive(Clone, Copy)]
 pub struct Stage {
     pub(crate) initiator: Initiator,
     pub(crate) responder: Responder,
@@ -30,13 +30,13 @@ pub struct Stage {
 }
 
 // A call of the initiator or of the responder: its answer, and the stage afterwards.
-#[derive(Drop)]
+#[derive(Clone, Copy)]
 pub struct InitiatorStep {
     pub answer: InitiatorAnswer,
     pub stage: Stage,
 }
 
-#[derive(Drop)]
+#[derive(Clone, Copy)]
 pub struct ResponderStep {
     pub answer: ResponderAnswer,
     pub stage: Stage,

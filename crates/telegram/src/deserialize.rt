@@ -13,7 +13,7 @@ use ground::{Address, Part, Refusal, Sap};
 
 // What reading finds: a telegram with its total length, too few bytes to tell, or a refusal of 1 to 7.
 // (Rust's `Option<Result<(Telegram, usize), ()>>`.)
-#[derive(Drop)]
+#[derive(Clone, Copy)]
 pub enum Deserialized {
     Telegram(Telegram, usize),
     Incomplete,

@@ -10,7 +10,7 @@ use codes::consts;
 use ground::Refusal;
 
 // Where a data telegram stands whose bytes are all there.
-#[derive(Drop)]
+#[derive(Clone, Copy)]
 pub struct Frame {
     // Where da stands
     pub at: usize,
@@ -23,7 +23,7 @@ pub struct Frame {
 }
 
 // What is found at the front of bytes: a frame, too few bytes to tell, or a refusal of 1 to 3.
-#[derive(Drop)]
+#[derive(Clone, Copy)]
 pub enum FrameFound {
     Is(Frame),
     Incomplete,

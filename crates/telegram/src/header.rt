@@ -3,20 +3,20 @@ use codes::FunctionCode;
 use ground::{Address, Sap};
 
 // A service access point that may be absent: Rust's `Option<u8>`.
-#[derive(Drop)]
+#[derive(Clone, Copy)]
 pub enum SapOption {
     Some(Sap),
     None,
 }
 
 // A station's address that may be absent: Rust's `Option<u8>`.
-#[derive(Drop)]
+#[derive(Clone, Copy)]
 pub enum AddressOption {
     Some(Address),
     None,
 }
 
-#[derive(Drop)]
+#[derive(Clone, Copy)]
 pub struct DataTelegramHeader {
     // Destination address
     pub da: Address,

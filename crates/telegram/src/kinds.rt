@@ -8,7 +8,7 @@ use codes::{FunctionCode, RequestType, ResponseStatusFound};
 use ground::{Address, Part};
 
 // A data telegram. Its PDU is a part of the bytes that it was read from.
-#[derive(Drop)]
+#[derive(Clone, Copy)]
 pub struct DataTelegram {
     pub h: DataTelegramHeader,
     pub pdu: Part,
@@ -51,7 +51,7 @@ impl DataTelegram {
     }
 }
 
-#[derive(Drop)]
+#[derive(Clone, Copy)]
 pub struct TokenTelegram {
     // Destination address
     pub da: Address,
@@ -67,7 +67,7 @@ impl TokenTelegram {
     }
 }
 
-#[derive(Drop)]
+#[derive(Clone, Copy)]
 pub enum Telegram {
     Data(DataTelegram),
     Token(TokenTelegram),

@@ -1,4 +1,6 @@
 // The telegrams of the bus, and reading them: what profirust's telegram.rs has beyond the codes, but for writing.
+#![tactic(auto)]
+
 pub mod deserialize;
 pub mod frame;
 pub mod header;

@@ -2,10 +2,11 @@
 use Rattle.ground.proofs.DeterminedLaws.{wrote}
 use Rattle.ground.specs.Determined.{Determined}
 use Rattle.telegram_bytes.proofs.SerializedLaws.{shown_serialized_injective}
-use Rattle.telegram_bytes.proofs.serialized.serialize as serialize
+use Rattle.telegram_bytes.specs.contracts.serialized.serialize as serialize
+use Rattle.telegram_bytes.proofs.serialized.serialize.Reads as serialize_reads
 
 pub record Calls : Type 0 where
-  pub serialize : Determined serialize.ended serialize.Reads.Learnt
+  pub serialize : Determined serialize.ended serialize_reads.Learnt
 
 pub determined : Calls
 determined =

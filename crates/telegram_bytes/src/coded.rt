@@ -3,7 +3,7 @@ use telegram::SapOption;
 
 // The header of a data telegram, with the byte of its function code in the place of the code: a caller that has the byte is spared
 // decoding it, and the writer encoding it again.
-#[derive(Drop)]
+#[derive(Clone, Copy)]
 pub struct CodedHeader {
     // Destination address
     pub da: Address,

@@ -10,7 +10,7 @@ use std::num::wrapping_add_u8;
 use telegram::SapOption;
 
 // The next place to write at, and the wrapping sum of what was written from da on.
-#[derive(Drop)]
+#[derive(Clone, Copy)]
 pub struct Place {
     pub at: usize,
     pub sum: u8,

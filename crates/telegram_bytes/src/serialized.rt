@@ -8,7 +8,7 @@ use crate::parts::{length_byte, put_telegram};
 use ground::Refusal;
 
 // How many bytes stand at the buffer's front, or a refusal of 8, 9 or 10.
-#[derive(Drop)]
+#[derive(Clone, Copy)]
 pub enum Serialized {
     Bytes(usize),
     Refused(Refusal),

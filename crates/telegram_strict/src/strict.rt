@@ -14,14 +14,14 @@ pub const LENGTH_NOT_STANDARD: u8 = 24;
 pub const FOURTH_BYTE: u8 = 25;
 
 // How bytes are read. The default is document 01's mode, which reads what the Rust reads; the order link keeps it.
-#[derive(Drop)]
+#[derive(Clone, Copy)]
 pub enum Mode {
     Default,
     Strict,
 }
 
 // What reading in a mode finds: a telegram with its total length, too few bytes to tell, or a refusal by its number.
-#[derive(Drop)]
+#[derive(Clone, Copy)]
 pub enum DeserializedIn {
     Telegram(Telegram, usize),
     Incomplete,

@@ -1,4 +1,6 @@
 // Writing telegrams: profirust's `TelegramTx`, into a buffer that the caller lends.
+#![tactic(auto)]
+
 mod coded;
 pub mod tx;
 

@@ -14,7 +14,7 @@ use telegram::{AddressOption, DataTelegramHeader, SapOption};
 use telegram_bytes::{CodedHeader, Serialized, serialize};
 
 // What was written: how many bytes, and who is to answer.
-#[derive(Drop)]
+#[derive(Clone, Copy)]
 pub struct TelegramTxResponse {
     bytes_sent: usize,
     // the station that a reply is expected from
@@ -46,7 +46,7 @@ impl TelegramTxResponse {
 
 // What was written, or a refusal of 4, 8, 9 or 10. (The Rust takes no byte for a function code, so it has no 4; where this refuses with
 // another it panics.)
-#[derive(Drop)]
+#[derive(Clone, Copy)]
 pub enum TelegramTxResult {
     Sent(TelegramTxResponse),
     Refused(Refusal),

@@ -7,7 +7,7 @@ ghost use Rattle.text.specs.Placed.{Placed};
 use crate::place::put_byte;
 
 // A decimal number that was read, with the place behind its digits.
-#[derive(Drop)]
+#[derive(Clone, Copy)]
 pub enum Number {
     Is { value: usize, next: usize },
     Nothing,
@@ -45,7 +45,7 @@ pub fn put_decimal(buf: &mut [u8], at: usize, n: usize) -> usize
 }
 
 // The digits at a place: the number that they say, or one above the limit where it is above it, and the place behind them.
-#[derive(Drop)]
+#[derive(Clone, Copy)]
 struct Digits {
     value: usize,
     next: usize,

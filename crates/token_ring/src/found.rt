@@ -2,7 +2,7 @@
 use ground::Address;
 
 // What a search for an active station finds.
-#[derive(Drop)]
+#[derive(Clone, Copy)]
 pub enum Found {
     Station(Address),
     Nothing,

@@ -3,7 +3,7 @@ ghost use Rattle.std.specs.Prelude.{◌≡◌};
 ghost use Rattle.token_ring.specs.Phases.{is_valid};
 
 // Status of the `LAS` (List of Active Stations).
-#[derive(Drop)]
+#[derive(Clone, Copy)]
 pub enum LasState {
     // We are waiting for the first token rotation to then enter discovery.
     Uninitialized,

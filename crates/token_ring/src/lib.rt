@@ -1,4 +1,6 @@
 // The station list of a PROFIBUS master, by value: profirust's src/fdl/token_ring.rs.
+#![tactic(auto)]
+
 mod flags;
 pub mod found;
 pub mod las_state;

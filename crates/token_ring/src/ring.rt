@@ -14,7 +14,7 @@ use crate::las_state::LasState;
 use ground::{Address, Answer, Refusal};
 
 // Management of the token ring from the station's point of view.
-#[derive(Drop)]
+#[derive(Clone, Copy)]
 pub struct TokenRing {
     // `LAS` (List of Active Stations).
     active_stations: [bool; 128],
@@ -31,7 +31,7 @@ pub struct TokenRing {
 }
 
 // The answer of a call that may refuse, and the list.
-#[derive(Drop)]
+#[derive(Clone, Copy)]
 pub struct Changed {
     pub answer: Answer,
     pub ring: TokenRing,
@@ -55,7 +55,7 @@ fn fresh_ring(own: u8) -> TokenRing
 }
 
 // What a witnessed pass did: the phase after it, and whether the flags were updated.
-#[derive(Drop)]
+#[derive(Clone, Copy)]
 struct Heard {
     state: LasState,
     updated: bool,

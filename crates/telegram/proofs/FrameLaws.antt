@@ -1,7 +1,7 @@
 -- Laws of the frame. Read `framed_read`: the reader's answer is made from it; for callers who judge the bytes of a frame themselves
 -- `found_frame`, `frame_reads`, `sealed_found`, `data_framed`, `framed_data` and `sealed_reads`. The rest says what each step of framing
 -- answers.
-use Prim.Native.Nat.{ℕ, ◌+◌, ◌-◌, ◌<◌, ◌≤◌}
+use Prim.Native.Nat.{ℕ, ◌+◌, ◌<◌, ◌≤◌}
 use mathlib.Core.Bool.{Bool, true, false, not}
 use mathlib.Core.List.{List}
 use mathlib.Core.Logic.{inl, inr}

@@ -11,7 +11,7 @@ use lib.ListN.{length, take}
 use lib.Seq.{take-append_seam}
 use borrow.Author.Tests.{ltb-true, ltb-false, eqb-true, eqb-false}
 use Rattle.codes.specs.FunctionCodes.{code_byte, CodeRead, as_written, bit7_set}
-use Rattle.ground.specs.Part.{shown_part}
+use Rattle.ground.specs.Part.{byte_at, shown_part}
 use Rattle.codes.specs.declared.function_code.FunctionCode.{FunctionCode}
 use Rattle.telegram.proofs.DrawnLaws.{picture_reads}
 use Rattle.telegram.proofs.OneDrawing.{place_once, drawn_once, lengths_alike, starts_alike}

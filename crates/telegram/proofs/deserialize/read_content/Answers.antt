@@ -1,7 +1,7 @@
 -- `read_content` meets its contract: each return is a case of steps 5 to 7.
 use mathlib.Core.Path.{sym, ◌∙◌}
 use native.Mathlib.Omega.{arith}
-use borrow.Author.Tests.{eqb-true, eqb-false, not-true, not-false}
+use borrow.Author.Tests.{eqb-true, eqb-false}
 use Rattle.telegram.proofs.Answers.{sap_missing, sum_differs, end_differs, content_whole, answer_content}
 use Rattle.telegram.proofs.deserialize.read_content.Goals as goal
 

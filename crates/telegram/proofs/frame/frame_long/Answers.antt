@@ -1,6 +1,5 @@
 -- `frame_long` meets its contract: each return is a case of steps 1 and 2; a length byte is below 256.
 use mathlib.Core.Path.{sym, ◌∙◌}
-use native.Mathlib.Omega.{arith}
 use Rattle.telegram.proofs.FrameLaws.{six_framing, differ_framing, small_framing, lengths_framing}
 use Rattle.telegram.proofs.frame.frame_long.Goals as goal
 

@@ -1,5 +1,4 @@
 -- `highest_below` meets its contract: what is found below the place reached is what is found below the start.
-use borrow.Author.Rules.{rules}
 use Rattle.std.proofs.Common.{sym, ◌∙◌, arith, rules}
 use Rattle.token_ring.proofs.FlagLaws.{highest_clamped, highest_done, highest_hit, highest_miss}
 use Rattle.token_ring.proofs.flags.highest_below.Goals as goal

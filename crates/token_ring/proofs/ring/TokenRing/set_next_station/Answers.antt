@@ -1,5 +1,4 @@
 -- `set_next_station` meets its contract: its test is the definition's, and the neighbours are found among the flags after the pass.
-use borrow.Author.Rules.{rules}
 use Rattle.std.proofs.Common.{◌≡◌, ◌<◌, ◌≤◌, true, length, sym, ◌∙◌, arith, rules}
 use Rattle.token_ring.proofs.RuleLaws.{answers_11, answers_done, length_gone, length_marked, neighbours_stored, set_done, set_refused}
 use Rattle.token_ring.proofs.ring.TokenRing.set_next_station.Goals as goal

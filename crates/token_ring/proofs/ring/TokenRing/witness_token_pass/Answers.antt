@@ -1,5 +1,4 @@
 -- `witness_token_pass` meets its contract: what `hear` ensures is the effect of the pass, and the neighbours are found where it updates.
-use borrow.Author.Rules.{rules}
 use Rattle.std.proofs.Common.{◌≡◌, ◌≤◌, length, sym, ap, ◌∙◌, inl, inr, arith, rules}
 use Rattle.ground.specs.declared.address.Address.{Address}
 use Rattle.token_ring.proofs.RuleLaws.{witnessed_ignored, witnessed_effect, length_heard, effected_updated, effected_same}

@@ -8,9 +8,14 @@ mod reading;
 mod stations;
 mod writing;
 
-fn main() {
-    reading::samples();
-    stations::samples();
-    blocks::samples();
-    writing::samples();
+use line_text::printing::Streams;
+use std::io;
+
+fn main(rt: HostRuntime) -> io::Result<()> {
+    let mut streams = Streams::new(rt.stdin(), rt.stdout(), rt.stderr());
+    reading::samples(&mut streams);
+    stations::samples(&mut streams);
+    blocks::samples(&mut streams);
+    writing::samples(&mut streams);
+    streams.end()
 }

@@ -121,15 +121,23 @@ use Rattle.exports_telegrams.specs.Write.{BareCall}
 use Rattle.ground.specs.Determined.{Promise, Says}
 use Rattle.ground.specs.Refusals.{refused, shown}
 use Rattle.initiator.specs.contracts.head.InitiatorHead.hear as head_hear
+use Rattle.initiator.proofs.head.InitiatorHead.hear.Reads as head_hear_reads
 use Rattle.initiator.specs.contracts.head.InitiatorHead.restart as head_restart
+use Rattle.initiator.proofs.head.InitiatorHead.restart.Reads as head_restart_reads
 use Rattle.initiator.specs.contracts.head.InitiatorHead.silence as head_silence
+use Rattle.initiator.proofs.head.InitiatorHead.silence.Reads as head_silence_reads
 use Rattle.initiator.specs.contracts.head.InitiatorHead.submit as head_submit
+use Rattle.initiator.proofs.head.InitiatorHead.submit.Reads as head_submit_reads
 use Rattle.initiator.specs.contracts.state.Initiator.hear as initiator_hear
+use Rattle.initiator.proofs.state.Initiator.hear.Reads as initiator_hear_reads
 use Rattle.initiator.specs.contracts.state.Initiator.new as initiator_new
 use Rattle.initiator.proofs.state.Initiator.new.Reads as initiator_new_reads
 use Rattle.initiator.specs.contracts.state.Initiator.restart as initiator_restart
+use Rattle.initiator.proofs.state.Initiator.restart.Reads as initiator_restart_reads
 use Rattle.initiator.specs.contracts.state.Initiator.silence as silence
+use Rattle.initiator.proofs.state.Initiator.silence.Reads as silence_reads
 use Rattle.initiator.specs.contracts.state.Initiator.submit as submit
+use Rattle.initiator.proofs.state.Initiator.submit.Reads as submit_reads
 use Rattle.initiator.specs.contracts.state.Initiator.with_default_tries as with_default_tries
 use Rattle.initiator.proofs.state.Initiator.with_default_tries.Reads as with_default_tries_reads
 use Rattle.initiator.specs.Calls as initiator
@@ -151,7 +159,9 @@ use Rattle.responder.proofs.head.ResponderHead.answer.Reads as responder_head_an
 use Rattle.responder.specs.contracts.head.ResponderHead.hear as responder_head_hear
 use Rattle.responder.proofs.head.ResponderHead.hear.Reads as responder_head_hear_reads
 use Rattle.responder.specs.contracts.state.Responder.answer as responder_answer
+use Rattle.responder.proofs.state.Responder.answer.Reads as responder_answer_reads
 use Rattle.responder.specs.contracts.state.Responder.hear as responder_hear
+use Rattle.responder.proofs.state.Responder.hear.Reads as responder_hear_reads
 use Rattle.responder.specs.contracts.state.Responder.new as responder_new
 use Rattle.responder.proofs.state.Responder.new.Reads as responder_new_reads
 use Rattle.responder.specs.Calls as responder
@@ -169,6 +179,7 @@ use Rattle.settings.specs.Writing as settingsWriting
 use Rattle.telegram.specs.contracts.frame.frame_of as frame_of
 use Rattle.telegram.proofs.frame.frame_of.Reads as frame_of_reads
 use Rattle.telegram.specs.contracts.kinds.Telegram.deserialize as deserialize
+use Rattle.telegram.proofs.kinds.Telegram.deserialize.Reads as deserialize_reads
 use Rattle.telegram.specs.Frames.{shown_frame, frame_refused}
 use Rattle.telegram.specs.Reading as reading
 use Rattle.telegram_bytes.specs.contracts.serialized.serialize as serialize
@@ -214,7 +225,7 @@ pub record EveryRefusal : Type 2 where
   -- codes and telegrams
   pub cycle : RefusedStays cycle.ended cycle_reads.Learnt (λ κs x. IsRefused refused (shown_cycled x)) (λ κs e. e)
   pub deserialize :
-      RefusedStays deserialize.ended deserialize.Reads.Learnt (λ κs x. IsRefused reading.refused (reading.shown_reading x))
+      RefusedStays deserialize.ended deserialize_reads.Learnt (λ κs x. IsRefused reading.refused (reading.shown_reading x))
       (λ κs e. e)
   pub strict_start : RefusedStays strict_start.ended strict_start_reads.Learnt (λ κs x. IsNumber x) (λ κs e. e)
   pub deserialize_strict :
@@ -279,28 +290,28 @@ pub record EveryRefusal : Type 2 where
       RefusedStays with_default_tries.ended with_default_tries_reads.Learnt (λ κs x. IsNumber (shown x.answer))
       (λ κs e. e)
   pub submit :
-      RefusedKeeps submit.ended submit.Reads.Learnt (λ κs x. IsRefused turns.refused (initiator.shown_said x.answer))
+      RefusedKeeps submit.ended submit_reads.Learnt (λ κs x. IsRefused turns.refused (initiator.shown_said x.answer))
       (λ κs e. e) (λ κs a x. x.initiator) (λ κs a. a.0)
   pub silence :
-      RefusedKeeps silence.ended silence.Reads.Learnt (λ κs x. IsRefused turns.refused (initiator.shown_said x.answer))
+      RefusedKeeps silence.ended silence_reads.Learnt (λ κs x. IsRefused turns.refused (initiator.shown_said x.answer))
       (λ κs e. e) (λ κs a x. x.initiator) (λ κs a. a.0)
   pub initiator_hear :
-      RefusedKeeps initiator_hear.ended initiator_hear.Reads.Learnt (λ κs x. IsRefused turns.refused (initiator.shown_said x.answer))
+      RefusedKeeps initiator_hear.ended initiator_hear_reads.Learnt (λ κs x. IsRefused turns.refused (initiator.shown_said x.answer))
       (λ κs e. e) (λ κs a x. x.initiator) (λ κs a. a.0)
   pub initiator_restart :
-      RefusedKeeps initiator_restart.ended initiator_restart.Reads.Learnt (λ κs x. IsRefused turns.refused (initiator.shown_said x.answer))
+      RefusedKeeps initiator_restart.ended initiator_restart_reads.Learnt (λ κs x. IsRefused turns.refused (initiator.shown_said x.answer))
       (λ κs e. e) (λ κs a x. x.initiator) (λ κs a. a.0)
   pub head_submit :
-      RefusedKeeps head_submit.ended head_submit.Reads.Learnt (λ κs x. IsRefused turns.refused (initiator.shown_said x.answer))
+      RefusedKeeps head_submit.ended head_submit_reads.Learnt (λ κs x. IsRefused turns.refused (initiator.shown_said x.answer))
       (λ κs e. e) (λ κs a x. head_after x a.0) (λ κs a. a.0)
   pub head_silence :
-      RefusedKeeps head_silence.ended head_silence.Reads.Learnt (λ κs x. IsRefused turns.refused (initiator.shown_said x.answer))
+      RefusedKeeps head_silence.ended head_silence_reads.Learnt (λ κs x. IsRefused turns.refused (initiator.shown_said x.answer))
       (λ κs e. e) (λ κs a x. head_after x a.0) (λ κs a. a.0)
   pub head_hear :
-      RefusedKeeps head_hear.ended head_hear.Reads.Learnt (λ κs x. IsRefused turns.refused (initiator.shown_said x.answer))
+      RefusedKeeps head_hear.ended head_hear_reads.Learnt (λ κs x. IsRefused turns.refused (initiator.shown_said x.answer))
       (λ κs e. e) (λ κs a x. head_after x a.0) (λ κs a. a.0)
   pub head_restart :
-      RefusedKeeps head_restart.ended head_restart.Reads.Learnt (λ κs x. IsRefused turns.refused (initiator.shown_said x.answer))
+      RefusedKeeps head_restart.ended head_restart_reads.Learnt (λ κs x. IsRefused turns.refused (initiator.shown_said x.answer))
       (λ κs e. e) (λ κs a x. head_after x a.0) (λ κs a. a.0)
   -- the responder: its row, made, by value, on a head and a lent reply
   pub row_answer :
@@ -308,10 +319,10 @@ pub record EveryRefusal : Type 2 where
       (λ κs e. e) (λ κs a x. x.head) (λ κs a. a.0)
   pub responder_new : RefusedStays responder_new.ended responder_new_reads.Learnt (λ κs x. IsNumber (shown x.answer)) (λ κs e. e)
   pub responder_hear :
-      RefusedKeeps responder_hear.ended responder_hear.Reads.Learnt (λ κs x. IsRefused turns.refused (responder.shown_said x.answer))
+      RefusedKeeps responder_hear.ended responder_hear_reads.Learnt (λ κs x. IsRefused turns.refused (responder.shown_said x.answer))
       (λ κs e. e) (λ κs a x. x.responder) (λ κs a. a.0)
   pub responder_answer :
-      RefusedKeeps responder_answer.ended responder_answer.Reads.Learnt (λ κs x. IsRefused turns.refused (responder.shown_said x.answer))
+      RefusedKeeps responder_answer.ended responder_answer_reads.Learnt (λ κs x. IsRefused turns.refused (responder.shown_said x.answer))
       (λ κs e. e) (λ κs a x. x.responder) (λ κs a. a.0)
   pub responder_head_hear :
       RefusedKeeps responder_head_hear.ended responder_head_hear_reads.Learnt (λ κs x. IsRefused turns.refused (responder.shown_said x.answer))

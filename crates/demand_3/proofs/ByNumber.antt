@@ -7,16 +7,16 @@ use lib.ListN.{length}
 use mathlib.Core.Bool.{Bool, true, false, true≢false}
 use mathlib.Core.List.{List, [], ◌∷◌, ◌++◌}
 use mathlib.Core.Logic.{◌⊎◌, inl, inr}
-use mathlib.Core.Option.{Option, none, some}
+use mathlib.Core.Option.{some}
 use mathlib.Core.Path.{◌≡◌, refl, sym, ap, ◌∙◌, subst}
 use native.Mathlib.Omega.{arith}
 use Rattle.ground.specs.Pick.{if}
 use Rattle.link_rules.specs.Rules.{Permitted}
 use Rattle.demand_3.specs.Demand.{Demand}
-use Rattle.demand_3.specs.History.{Given, made, dropped, History, history, settled_all, submitted, counted, reported, handed_up, noted, answered, opening_heard}
+use Rattle.demand_3.specs.History.{made, dropped, History, history, settled_all, submitted, counted, reported, noted, answered, opening_heard}
 use Rattle.demand_3.specs.Line.{Pair, State, Call, initiator_made, submits, silent, initiator_hears, initiator_restarts, responder_made, responder_hears, answers, responder_restarts, sent_of, step, start, run, Lawful, Obeys}
 use Rattle.demand_3.specs.Live.{Accepted, Silent}
-use Rattle.demand_3.specs.Numbers.{Numbering, Label, Answer, Log, no_log, labelled, ordered, line_after, Among, flat, Different, AllTheirOwn, logged, answered_by, given_by, WithNumber, Comes, begins, goes_on, is_answered, AnswersByNumber}
+use Rattle.demand_3.specs.Numbers.{Numbering, Label, Answer, Log, no_log, labelled, ordered, line_after, flat, Different, logged, answered_by, given_by, WithNumber, Comes, begins, goes_on, is_answered, AnswersByNumber}
 use Rattle.demand_3.specs.Safe.{Every, entries_of, Safe}
 use Rattle.demand_3.specs.Turns.{Bytes, Outcome, Told, refused, nothing, tells, Turn, refusing}
 use Rattle.demand_3.proofs.Owing.{Owing}

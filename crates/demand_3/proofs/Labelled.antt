@@ -1,12 +1,10 @@
 -- The history beside the log of an application that answers by number: what each thing that happens does to both. Of the latest order it is
 -- known for whom its reply was given as soon as there is one; of the older ones once they are confirmed.
-use Prim.Native.Nat.{ℕ}
 use mathlib.Core.Bool.{Bool, true, false, true≢false}
 use mathlib.Core.List.{List, [], ◌∷◌, map, ◌++◌}
-use mathlib.Core.Logic.{◌⊎◌, inl, inr}
 use mathlib.Core.Option.{Option, none, some}
-use mathlib.Core.Path.{◌≡◌, refl, sym, ap, ◌∙◌}
-use Rattle.demand_3.specs.Turns.{Bytes, Outcome, confirmed, Told, refused, nothing, tells}
+use mathlib.Core.Path.{◌≡◌, refl, sym, ap}
+use Rattle.demand_3.specs.Turns.{Bytes, Outcome, Told, refused, nothing, tells}
 use Rattle.demand_3.specs.History.{Given, awaited, made, dropped, HandUp, hand_up, pending, abandoned, ended, Entry, entry, History, history, submitted, Sent, nothingSent, openingSent, orderSent, counted, outcome, reported, left_pending, handed_up, settled, settled_in, settled_all}
 use Rattle.demand_3.specs.Numbers.{Label, Answer, ordered, labelled, Among, flat, ItsOwn, AllTheirOwn}
 use Rattle.demand_3.specs.Safe.{Every, hand_ups_of, given_of, entries_of, ConfirmedReply}

@@ -2,12 +2,11 @@
 -- Read `Owing` and `owing_same`.
 use mathlib.Core.Bool.{Bool, true, false}
 use mathlib.Core.Logic.{inl}
-use mathlib.Core.Option.{Option, map}
 use mathlib.Core.Path.{◌≡◌, sym, ap, ◌∙◌, subst}
 use Rattle.demand_3.proofs.Follows.{Same, Follows}
 use Rattle.demand_3.specs.Line.{Pair}
 use Rattle.demand_3.specs.Live.{Accepted, Silent}
-use Rattle.demand_3.specs.Turns.{Bytes, Told, Turn}
+use Rattle.demand_3.specs.Turns.{Bytes, Turn}
 
 pub record Owing (P : Pair) : Type 1 where
   -- which records can come about, and whether a reply is owed

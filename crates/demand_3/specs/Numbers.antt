@@ -6,7 +6,6 @@ use Rattle.std.proofs.Math.Option.{Option}
 use Rattle.demand_3.specs.Turns.{Bytes, confirmed, Told, refused, nothing, tells, Turn, refusing}
 use Rattle.demand_3.specs.History.{ended, Entry, noted, answered}
 use Rattle.demand_3.specs.Line.{Pair, State, Call, initiator_made, submits, silent, initiator_hears, initiator_restarts, responder_made, responder_hears, answers, responder_restarts, still_or, step, start, Lawful}
-use Rattle.demand_3.specs.Live.{Accepted}
 use Rattle.demand_3.specs.Safe.{Every, report_of, entries_of}
 use Rattle.link_rules.specs.Rules.{Permitted}
 

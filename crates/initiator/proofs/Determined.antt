@@ -5,12 +5,17 @@ use Rattle.initiator.proofs.ShownLaws.{made_injective, parts_injective, turn_inj
 use Rattle.ground.proofs.DeterminedLaws.{same, fixed, seen, turned}
 use Rattle.ground.specs.Determined.{Determined}
 use Rattle.initiator.specs.contracts.head.InitiatorHead.hear as head_hear
+use Rattle.initiator.proofs.head.InitiatorHead.hear.Reads as head_hear_reads
 use Rattle.initiator.specs.contracts.head.InitiatorHead.order_len as head_order_len
 use Rattle.initiator.proofs.head.InitiatorHead.order_len.Reads as head_order_len_reads
 use Rattle.initiator.specs.contracts.head.InitiatorHead.restart as head_restart
+use Rattle.initiator.proofs.head.InitiatorHead.restart.Reads as head_restart_reads
 use Rattle.initiator.specs.contracts.head.InitiatorHead.silence as head_silence
+use Rattle.initiator.proofs.head.InitiatorHead.silence.Reads as head_silence_reads
 use Rattle.initiator.specs.contracts.head.InitiatorHead.submit as head_submit
+use Rattle.initiator.proofs.head.InitiatorHead.submit.Reads as head_submit_reads
 use Rattle.initiator.specs.contracts.state.Initiator.hear as initiator_hear
+use Rattle.initiator.proofs.state.Initiator.hear.Reads as initiator_hear_reads
 use Rattle.initiator.specs.contracts.state.Initiator.new as initiator_new
 use Rattle.initiator.proofs.state.Initiator.new.Reads as initiator_new_reads
 use Rattle.initiator.specs.contracts.state.Initiator.order as order
@@ -24,8 +29,11 @@ use Rattle.initiator.proofs.state.Initiator.peer.Reads as initiator_peer_reads
 use Rattle.initiator.specs.contracts.state.Initiator.phase as phase
 use Rattle.initiator.proofs.state.Initiator.phase.Reads as phase_reads
 use Rattle.initiator.specs.contracts.state.Initiator.restart as initiator_restart
+use Rattle.initiator.proofs.state.Initiator.restart.Reads as initiator_restart_reads
 use Rattle.initiator.specs.contracts.state.Initiator.silence as silence
+use Rattle.initiator.proofs.state.Initiator.silence.Reads as silence_reads
 use Rattle.initiator.specs.contracts.state.Initiator.submit as submit
+use Rattle.initiator.proofs.state.Initiator.submit.Reads as submit_reads
 use Rattle.initiator.specs.contracts.state.Initiator.tries as tries
 use Rattle.initiator.proofs.state.Initiator.tries.Reads as tries_reads
 use Rattle.initiator.specs.contracts.state.Initiator.with_default_tries as with_default_tries
@@ -40,15 +48,15 @@ use Rattle.initiator.proofs.state.Phase.tries_used.Reads as tries_used_reads
 pub record Calls : Type 0 where
   pub initiator_new : Determined initiator_new.ended initiator_new_reads.Learnt
   pub with_default_tries : Determined with_default_tries.ended with_default_tries_reads.Learnt
-  pub head_submit : Determined head_submit.ended head_submit.Reads.Learnt
-  pub head_silence : Determined head_silence.ended head_silence.Reads.Learnt
-  pub head_hear : Determined head_hear.ended head_hear.Reads.Learnt
-  pub head_restart : Determined head_restart.ended head_restart.Reads.Learnt
+  pub head_submit : Determined head_submit.ended head_submit_reads.Learnt
+  pub head_silence : Determined head_silence.ended head_silence_reads.Learnt
+  pub head_hear : Determined head_hear.ended head_hear_reads.Learnt
+  pub head_restart : Determined head_restart.ended head_restart_reads.Learnt
   pub head_order_len : Determined head_order_len.ended head_order_len_reads.Learnt
-  pub submit : Determined submit.ended submit.Reads.Learnt
-  pub silence : Determined silence.ended silence.Reads.Learnt
-  pub initiator_hear : Determined initiator_hear.ended initiator_hear.Reads.Learnt
-  pub initiator_restart : Determined initiator_restart.ended initiator_restart.Reads.Learnt
+  pub submit : Determined submit.ended submit_reads.Learnt
+  pub silence : Determined silence.ended silence_reads.Learnt
+  pub initiator_hear : Determined initiator_hear.ended initiator_hear_reads.Learnt
+  pub initiator_restart : Determined initiator_restart.ended initiator_restart_reads.Learnt
   pub order : Determined order.ended order_reads.Learnt
   pub initiator_own : Determined initiator_own.ended initiator_own_reads.Learnt
   pub initiator_peer : Determined initiator_peer.ended initiator_peer_reads.Learnt

@@ -11,9 +11,9 @@ use Rattle.demand_3.proofs.Transfer.{demand_same}
 use Rattle.demand_3.specs.Demand.{Demand}
 use Rattle.demand_3.specs.Line.{Pair}
 use Rattle.demand_3.specs.Live.{Accepted, Silent}
-use Rattle.demand_3.specs.Turns.{Bytes, Told, refused, nothing, tells, Turn, refusing, ignoring}
+use Rattle.demand_3.specs.Turns.{Bytes, Turn, refusing}
 use Rattle.link_model.specs.Counting.{counted, counting}
-use Rattle.link_model.specs.Messages.{Bit, Message, opening, ok, order, reply, other}
+use Rattle.link_model.specs.Messages.{Message, opening, ok, order, reply, other}
 use Rattle.link_model.specs.Coded.{Codec, coded, put_turn, taken_of}
 use Rattle.link_model.specs.Responder.{Row, blank, opened, owes, holds, ordered_on, same_bit, row_hears, row_answers}
 

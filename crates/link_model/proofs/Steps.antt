@@ -11,7 +11,7 @@ use Rattle.link_model.specs.Responder.{Row, RowTurn, blank, opened, owes, holds,
 use Rattle.demand_3.specs.History.{Given, made, dropped, Entry, History, history, submitted, counted, reported, left_pending, noted, answered, opening_heard}
 use Rattle.demand_3.specs.Line.{begun, sent_of, still_or, Heard, in_flight, stray}
 use Rattle.link_model.specs.Ours.{ours}
-use Rattle.link_model.proofs.Invariant.{Gone, gone_left, gone_lost, gone_never, gone_once, waits, left, unsent, lost, waited, left_once, shown, lost_once, Kept, empty, never, once, Ready, blank_row, just_opened, held_high, held_low, Served, forgotten, owing, holding, ClosedLine, none_c, opening_c, ok_c, reply_c, none_r, reply_r, none_a, opening_a, ok_a, reply_a, none_o, order_o, none_s, order_s, reply_s, Inv, at_rest, left_unserved, left_served, at_ready, at_asking, unserved, served}
+use Rattle.link_model.proofs.Invariant.{gone_left, gone_lost, gone_never, gone_once, waits, left, unsent, lost, waited, left_once, shown, lost_once, Kept, empty, never, once, Ready, blank_row, just_opened, held_high, held_low, Served, forgotten, owing, holding, ClosedLine, none_c, opening_c, ok_c, reply_c, none_r, reply_r, none_a, opening_a, ok_a, reply_a, none_o, order_o, none_s, order_s, reply_s, Inv, at_rest, left_unserved, left_served, at_ready, at_asking, unserved, served}
 use Rattle.link_model.proofs.Kept.{kept_settled}
 
 -- the invariant after a call of the initiator, and after one of the responder
@@ -84,6 +84,15 @@ hear_keeps n (reply p) (at_asking k reply_a) = at_asking k none_a
 hear_keeps n (order b q) (unserved k y order_o) = unserved k y none_o
 hear_keeps n (order b q) (served k y order_s) = served k y none_s
 hear_keeps n (reply p) (served k y reply_s) = at_ready (once shown k) (next_ready y) none_r
+hear_keeps n (order b q) (at_asking k x) = elim x [ ]
+hear_keeps n other (at_asking k x) = elim x [ ]
+hear_keeps n opening (unserved k y x) = elim x [ ]
+hear_keeps n ok (unserved k y x) = elim x [ ]
+hear_keeps n (reply p) (unserved k y x) = elim x [ ]
+hear_keeps n other (unserved k y x) = elim x [ ]
+hear_keeps n opening (served k y x) = elim x [ ]
+hear_keeps n ok (served k y x) = elim x [ ]
+hear_keeps n other (served k y x) = elim x [ ]
 
 -- an end has restarted: nothing is said of a stored bit any more
 ready_broken : {u : Bool} {b : Bit} {r : Row} → Ready u b r → Ready false b r
@@ -180,6 +189,16 @@ attend_keeps (order low q) (served k holding order_s) = served k holding reply_s
 attend_keeps (order high q) (served k holding order_s) = served k holding reply_s
 attend_keeps (reply p) (served k y reply_s) = served k y none_s
 attend_keeps other v = hushed v
+attend_keeps opening (at_ready k y x) = elim x [ ]
+attend_keeps opening (unserved k _ x) = elim x [ ]
+attend_keeps opening (served k y x) = elim x [ ]
+attend_keeps ok (at_ready k y x) = elim x [ ]
+attend_keeps ok (unserved k _ x) = elim x [ ]
+attend_keeps ok (served k y x) = elim x [ ]
+attend_keeps (order b q) (at_rest k x) = elim x [ ]
+attend_keeps (order b q) (at_ready k y x) = elim x [ ]
+attend_keeps (order b q) (at_asking k x) = elim x [ ]
+attend_keeps (reply p) (unserved k _ x) = elim x [ ]
 
 pub answer_keeps :
     (a : Bytes) {p : Phase} {r : Row} {l : Option Message} {h : History} {u : Bool} → Inv p r l h u

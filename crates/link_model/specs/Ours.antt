@@ -4,7 +4,7 @@ use Rattle.std.specs.Prelude.{ℕ, Bool, true, ◌≡◌}
 use Rattle.ground.specs.Pick.{if}
 use Rattle.link_model.specs.Messages.{Message, is_opening}
 use Rattle.demand_3.specs.Turns.{Bytes, Outcome, Turn, refusing, ignoring}
-use Rattle.link_model.specs.Initiator.{Initiator, new_initiator, submit_of, silence_of, hear_of, restart_of}
+use Rattle.link_model.specs.Initiator.{new_initiator, submit_of, silence_of, hear_of, restart_of}
 use Rattle.link_model.specs.Responder.{row_hears, row_answers, new_row}
 use Rattle.demand_3.specs.Line.{Pair}
 

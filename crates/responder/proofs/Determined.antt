@@ -8,9 +8,11 @@ use Rattle.responder.proofs.head.ResponderHead.answer.Reads as head_answer_reads
 use Rattle.responder.specs.contracts.head.ResponderHead.hear as head_hear
 use Rattle.responder.proofs.head.ResponderHead.hear.Reads as head_hear_reads
 use Rattle.responder.specs.contracts.state.Responder.answer as responder_answer
+use Rattle.responder.proofs.state.Responder.answer.Reads as responder_answer_reads
 use Rattle.responder.specs.contracts.state.Responder.from_parts as responder_from_parts
 use Rattle.responder.proofs.state.Responder.from_parts.Reads as responder_from_parts_reads
 use Rattle.responder.specs.contracts.state.Responder.hear as responder_hear
+use Rattle.responder.proofs.state.Responder.hear.Reads as responder_hear_reads
 use Rattle.responder.specs.contracts.state.Responder.new as responder_new
 use Rattle.responder.proofs.state.Responder.new.Reads as responder_new_reads
 use Rattle.responder.specs.contracts.state.Responder.own as responder_own
@@ -18,6 +20,7 @@ use Rattle.responder.proofs.state.Responder.own.Reads as responder_own_reads
 use Rattle.responder.specs.contracts.state.Responder.peer as responder_peer
 use Rattle.responder.proofs.state.Responder.peer.Reads as responder_peer_reads
 use Rattle.responder.specs.contracts.state.Responder.restart as responder_restart
+use Rattle.responder.proofs.state.Responder.restart.Reads as responder_restart_reads
 use Rattle.responder.specs.contracts.state.Responder.row as row
 use Rattle.responder.proofs.state.Responder.row.Reads as row_reads
 
@@ -26,9 +29,9 @@ pub record Calls : Type 0 where
   pub responder_new : Determined responder_new.ended responder_new_reads.Learnt
   pub head_hear : Determined head_hear.ended head_hear_reads.Learnt
   pub head_answer : Determined head_answer.ended head_answer_reads.Learnt
-  pub responder_hear : Determined responder_hear.ended responder_hear.Reads.Learnt
-  pub responder_answer : Determined responder_answer.ended responder_answer.Reads.Learnt
-  pub responder_restart : Determined responder_restart.ended responder_restart.Reads.Learnt
+  pub responder_hear : Determined responder_hear.ended responder_hear_reads.Learnt
+  pub responder_answer : Determined responder_answer.ended responder_answer_reads.Learnt
+  pub responder_restart : Determined responder_restart.ended responder_restart_reads.Learnt
   pub responder_own : Determined responder_own.ended responder_own_reads.Learnt
   pub responder_peer : Determined responder_peer.ended responder_peer_reads.Learnt
   pub row : Determined row.ended row_reads.Learnt

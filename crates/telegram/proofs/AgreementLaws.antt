@@ -79,13 +79,18 @@ module _ {m : ℕ} {s u : List ℕ} (agree : Agree m s u) where
       code_known fc (omega arith) (rw (← agree.same (at + 2) (omega arith)) e)
       (subst (Content u at l fc) (sym (content_same at l fc g h) ∙ answer_content c) (content_answered u at l fc))
 
+  content_reaches :
+      (at l : ℕ) (fc : FunctionCode) {r : Reading} → Reaches m (length s) r → at + l + 2 ≤ length s → Content s at l fc r
+      → at + l + 2 ≤ m
+  content_reaches at l fc h j (sap_missing f) = omega arith
+  content_reaches at l fc h j (sum_differs f a) = omega arith
+  content_reaches at l fc h j (end_differs f a b) = omega arith
+  content_reaches at l fc h j (content_whole f a b) = h
+
   frame_reaches : {r : Reading} (at l : ℕ) → Reaches m (length s) r → Frame s at l r → at + l + 2 ≤ m
   frame_reaches at l h (under_total j) = absurd h
   frame_reaches at l h (code_unknown j e) = omega arith
-  frame_reaches at l h (code_known fc j e (sap_missing f)) = omega arith
-  frame_reaches at l h (code_known fc j e (sum_differs f a)) = omega arith
-  frame_reaches at l h (code_known fc j e (end_differs f a b)) = omega arith
-  frame_reaches at l h (code_known fc j e (content_whole f a b)) = h
+  frame_reaches at l h (code_known fc j e c) = content_reaches at l fc h j c
 
   first : {b : ℕ} → 1 ≤ m → byte_at s 0 ≡ b → byte_at u 0 ≡ b
   first h e = rw (← agree.same 0 (omega arith)) e

@@ -21,6 +21,8 @@ use Rattle.codes.specs.declared.function_code.FunctionCodeFound.TheVariants as c
 use Rattle.codes.specs.Delimiters.{SD1, SD2, SD3, SD4, SC, ED}
 use Rattle.telegram.specs.Leaves.{content_of, code_of, frame_of, lengths_of, data_of, token_of, steps_of}
 use Rattle.telegram.specs.Reading.{Reading, whole, incomplete, refused, saps_at, telegram_at, token_at, starts_data, data_read, read_of}
+use Rattle.telegram.specs.declared.kinds.DataTelegram.{DataTelegram}
+use Rattle.telegram.specs.declared.kinds.Telegram.{Telegram}
 use Rattle.telegram.specs.declared.kinds.Telegram.TheVariants.{Data, Token, ShortConfirmation}
 
 -- A first byte of a data telegram.
@@ -87,6 +89,18 @@ pub data Content (s : List ℕ) (at l : ℕ) (fc : FunctionCode) : Reading → T
   content_whole :
       3 + saps_at s at ≤ l → byte_at s (at + l) ≡ checksum_of (part s at (at + l)) → byte_at s (at + l + 1) ≡ ED
       → Content s at l fc (whole (Data (telegram_at s at l fc)) (at + l + 2))
+
+-- Where the content is whole, what is read is of its length; and a data telegram that is read is the one that stands there.
+pub whole_length : {s : List ℕ} {at l : ℕ} (fc : FunctionCode) {t : Telegram} {n : ℕ} → Content s at l fc (whole t n) → n ≡ at + l + 2
+whole_length fc (content_whole f a b) = refl
+
+pub whole_data :
+    {s : List ℕ} {at l : ℕ} (fc : FunctionCode) {d : DataTelegram} {n : ℕ}
+    → Content s at l fc (whole (Data d) n) → d ≡ telegram_at s at l fc
+whole_data fc (content_whole f a b) = refl
+
+pub whole_saps : {s : List ℕ} {at l : ℕ} (fc : FunctionCode) {t : Telegram} {n : ℕ} → Content s at l fc (whole t n) → 3 + saps_at s at ≤ l
+whole_saps fc (content_whole f a b) = f
 
 -- Steps 3 and 4.
 pub data Frame (s : List ℕ) (at l : ℕ) : Reading → Type 0 where
@@ -233,13 +247,19 @@ tail s at l =
     (if (not (eqb (byte_at s (at + l + 1)) ED)) (refused 7)
     (data_read s at l (function_code_of (byte_at s (at + 2))))))))
 
+tail_known :
+    {s : List ℕ} {at l : ℕ} (fc : FunctionCode) {r : Reading}
+    → at + l + 2 ≤ length s → function_code_of (byte_at s (at + 2)) ≡ codeFound.Is fc → Content s at l fc r
+    → tail s at l ≡ r
+tail_known fc h e (sap_missing f) = rw (le-ltb _ _ h, e, lt-ltb _ _ f)
+tail_known fc h e (sum_differs f d) = rw (le-ltb _ _ h, e, le-ltb _ _ f, ne_eqb _ _ d)
+tail_known fc h e (end_differs f d g) = rw (le-ltb _ _ h, e, le-ltb _ _ f, eq-eqb _ _ d, ne_eqb _ _ g)
+tail_known fc h e (content_whole f d g) = rw (le-ltb _ _ h, e, le-ltb _ _ f, eq-eqb _ _ d, eq-eqb _ _ g)
+
 tail_is : {s : List ℕ} {at l : ℕ} {r : Reading} → Frame s at l r → tail s at l ≡ r
 tail_is (under_total h) = rw (lt-ltb _ _ h)
 tail_is (code_unknown h e) = rw (le-ltb _ _ h, e)
-tail_is (code_known fc h e (sap_missing f)) = rw (le-ltb _ _ h, e, lt-ltb _ _ f)
-tail_is (code_known fc h e (sum_differs f d)) = rw (le-ltb _ _ h, e, le-ltb _ _ f, ne_eqb _ _ d)
-tail_is (code_known fc h e (end_differs f d g)) = rw (le-ltb _ _ h, e, le-ltb _ _ f, eq-eqb _ _ d, ne_eqb _ _ g)
-tail_is (code_known fc h e (content_whole f d g)) = rw (le-ltb _ _ h, e, le-ltb _ _ f, eq-eqb _ _ d, eq-eqb _ _ g)
+tail_is (code_known fc h e c) = tail_known fc h e c
 
 pub some_bytes : {n k : ℕ} → suc k ≤ n → eqb n 0 ≡ false
 some_bytes {n} {k} h = ne_eqb n 0 (λ e. omega arith)

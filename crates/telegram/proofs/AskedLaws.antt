@@ -3,13 +3,13 @@
 use Prim.Native.Nat.{ℕ, ◌+◌, ◌<◌, ◌≤◌}
 use mathlib.Core.List.{List}
 use mathlib.Core.Logic.{◌↔◌, inl, inr}
-use mathlib.Core.Path.{◌≡◌, refl}
+use mathlib.Core.Path.{◌≡◌, refl, sym, ◌∙◌}
 use native.Mathlib.Omega.{arith}
 use lib.ListN.{length}
 use borrow.Author.Tests.{lt-ltb, le-ltb, eq-eqb, ne_eqb}
 use Rattle.codes.specs.Delimiters.{SD1, SD2, SD3, SD4, SC}
 use Rattle.ground.specs.Part.{byte_at}
-use Rattle.telegram.proofs.Answers.{DataStart, Frame, under_total, code_unknown, code_known, sap_missing, sum_differs, end_differs, content_whole, Answered, nothing, confirmation, token_short, token_whole, unknown, data_short, lengths_differ, length_small, sd1, sd2, sd3, some_bytes}
+use Rattle.telegram.proofs.Answers.{DataStart, Frame, under_total, code_unknown, code_known, sap_missing, sum_differs, end_differs, whole_length, Answered, nothing, confirmation, token_short, token_whole, unknown, data_short, lengths_differ, length_small, sd1, sd2, sd3, some_bytes}
 use Rattle.telegram.proofs.ReadingLaws.{reason}
 use Rattle.telegram.specs.Asked.{asked_of}
 use Rattle.telegram.specs.Begins.{Bytes}
@@ -72,6 +72,7 @@ module _ (s : List ℕ) where
 
 frame_short : {s : List ℕ} {at l : ℕ} → Frame s at l incomplete → length s < at + l + 2
 frame_short (under_total h) = h
+frame_short {s = s} {at = at} {l = l} (code_known fc g e c) = elim c [ ]
 
 frame_refused : {s : List ℕ} {at l k : ℕ} → Frame s at l (refused k) → at + l + 2 ≤ length s
 frame_refused (code_unknown h e) = h
@@ -98,9 +99,9 @@ refused_enough (sd3 h d f) = rw (asked_sd3 _ h d) (frame_refused f)
 whole_asked : {s : List ℕ} {t : Telegram} {n : ℕ} → Answered s (whole t n) → (asked_of s ≡ n) × (n ≤ length s)
 whole_asked (confirmation h e) = (asked_confirmation _ h e, h)
 whole_asked (token_whole h e) = (asked_token _ (omega arith) e, h)
-whole_asked (sd1 h d (code_known fc g e (content_whole f a b))) = (asked_sd1 _ h d, g)
-whole_asked (sd2 h d q l (code_known fc g e (content_whole f a b))) = (asked_sd2 _ h d q l, g)
-whole_asked (sd3 h d (code_known fc g e (content_whole f a b))) = (asked_sd3 _ h d, g)
+whole_asked (sd1 h d (code_known fc g e c)) = (asked_sd1 _ h d ∙ sym (whole_length fc c), omega (arith, whole_length fc c))
+whole_asked (sd2 h d q l (code_known fc g e c)) = (asked_sd2 _ h d q l ∙ sym (whole_length fc c), omega (arith, whole_length fc c))
+whole_asked (sd3 h d (code_known fc g e c)) = (asked_sd3 _ h d ∙ sym (whole_length fc c), omega (arith, whole_length fc c))
 
 -- A telegram is as long as its bytes ask.
 pub telegram_asked : (s : List ℕ) {t : Telegram} {n : ℕ} → read_of s ≡ whole t n → asked_of s ≡ n

@@ -15,6 +15,7 @@ use Rattle.telegram.proofs.kinds.DataTelegram.is_response.Reads as is_response_r
 use Rattle.telegram.specs.contracts.kinds.DataTelegram.pdu as pdu
 use Rattle.telegram.proofs.kinds.DataTelegram.pdu.Reads as pdu_reads
 use Rattle.telegram.specs.contracts.kinds.Telegram.deserialize as deserialize
+use Rattle.telegram.proofs.kinds.Telegram.deserialize.Reads as deserialize_reads
 use Rattle.telegram.specs.contracts.kinds.Telegram.destination_address as destination_address
 use Rattle.telegram.proofs.kinds.Telegram.destination_address.Reads as destination_address_reads
 use Rattle.telegram.specs.contracts.kinds.Telegram.source_address as source_address
@@ -23,7 +24,7 @@ use Rattle.telegram.specs.contracts.kinds.TokenTelegram.new as new_token
 use Rattle.telegram.proofs.kinds.TokenTelegram.new.Reads as new_token_reads
 
 pub record Calls : Type 0 where
-  pub deserialize : Determined deserialize.ended deserialize.Reads.Learnt
+  pub deserialize : Determined deserialize.ended deserialize_reads.Learnt
   pub frame_of : Determined frame_of.ended frame_of_reads.Learnt
   pub is_sealed : Determined is_sealed.ended is_sealed_reads.Learnt
   pub pdu : ShownDetermined pdu.ended (λ κs. (λ x. x.now)) pdu_reads.Learnt

@@ -1,7 +1,7 @@
 -- Laws of the frame. Read `framed_read`: the reader's answer is made from it; for callers who judge the bytes of a frame themselves
 -- `found_frame`, `frame_reads`, `sealed_found`, `data_framed`, `framed_data` and `sealed_reads`. The rest says what each step of framing
 -- answers.
-use Prim.Native.Nat.{ℕ, ◌+◌, ◌-◌, ◌<◌, ◌≤◌}
+use Prim.Native.Nat.{ℕ, ◌+◌, ◌<◌, ◌≤◌}
 use mathlib.Core.Bool.{Bool, true, false, not}
 use mathlib.Core.List.{List}
 use mathlib.Core.Logic.{inl, inr}
@@ -21,7 +21,7 @@ use Rattle.ground.proofs.PickLaws.{picked, both_first, both_second}
 use Rattle.ground.proofs.RefusalLaws.{refusal_of, refusal_again}
 use Rattle.ground.specs.Part.{part, byte_at}
 use Rattle.ground.specs.Pick.{if}
-use Rattle.telegram.proofs.Answers.{DataStart, steps_read, data_start, starts_true, Content, content_whole, content_answered, answer_content, code_known, Answered, sd1, sd2, sd3}
+use Rattle.telegram.proofs.Answers.{DataStart, steps_read, data_start, starts_true, Content, content_whole, whole_length, content_answered, answer_content, code_known, Answered, sd1, sd2, sd3}
 use Rattle.telegram.proofs.ReadingLaws.{reason}
 use Rattle.telegram.specs.Frames.{Framing, frame_is, frame_incomplete, frame_refused, shown_frame, frame_at, framing_at, framing_lengths, framing_data, framing_of, sealed_of}
 use Rattle.telegram.specs.Leaves.{code_of, frame_of, lengths_of, data_of, steps_of, framing_long, reading_of}
@@ -239,16 +239,16 @@ pub record DataFramed (s : List ℕ) (n : ℕ) : Type 0 where
   pub total : n ≡ frame.total
 
 framed_of : {s : List ℕ} {d : DataTelegram} {n : ℕ} → Answered s (whole (Data d) n) → DataFramed s n
-framed_of {s} (sd1 h q (code_known fc g e (content_whole f a b))) =
-    record { frame = frame_at s 1 3; found = sd1_framing s (λ z. omega arith) q ∙ total_framing s 1 3 g; total = refl }
-framed_of {s} (sd2 h q same l (code_known fc g e (content_whole f a b))) =
+framed_of {s} (sd1 h q (code_known fc g e c)) =
+    record { frame = frame_at s 1 3; found = sd1_framing s (λ z. omega arith) q ∙ total_framing s 1 3 g; total = whole_length fc c }
+framed_of {s} (sd2 h q same l (code_known fc g e c)) =
     record {
       frame = frame_at s 4 (byte_at s 1);
       found = sd2_framing s (λ z. omega arith) q ∙ lengths_framing s h same l ∙ total_framing s 4 (byte_at s 1) g;
-      total = refl;
+      total = whole_length fc c;
     }
-framed_of {s} (sd3 h q (code_known fc g e (content_whole f a b))) =
-    record { frame = frame_at s 1 11; found = sd3_framing s (λ z. omega arith) q ∙ total_framing s 1 11 g; total = refl }
+framed_of {s} (sd3 h q (code_known fc g e c)) =
+    record { frame = frame_at s 1 11; found = sd3_framing s (λ z. omega arith) q ∙ total_framing s 1 11 g; total = whole_length fc c }
 
 pub data_framed : (s : List ℕ) {d : DataTelegram} {n : ℕ} → read_of s ≡ whole (Data d) n → DataFramed s n
 data_framed s e = framed_of (reason s e)

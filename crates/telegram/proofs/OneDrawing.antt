@@ -1,5 +1,5 @@
 -- Two drawings of one data telegram. On one byte string they have one start and one code, `drawn_once`; on two, starts that are alike, `starts_alike`.
-use Prim.Native.Nat.{ℕ, ◌+◌}
+use Prim.Native.Nat.{ℕ}
 use mathlib.Core.List.{List, ◌∷◌, ◌++◌}
 use mathlib.Core.Path.{◌≡◌, refl, sym, ◌∙◌, ap}
 use native.Mathlib.Omega.{arith}

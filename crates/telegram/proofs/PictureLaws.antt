@@ -18,7 +18,7 @@ use Rattle.ground.specs.Part.{part, byte_at}
 use Rattle.codes.specs.declared.function_code.FunctionCode.{FunctionCode}
 use Rattle.codes.specs.declared.function_code.FunctionCodeFound.TheVariants as codeFound
 use Rattle.telegram.proofs.AgreementLaws.{header_same, saps_same}
-use Rattle.telegram.proofs.Answers.{content_whole, Frame, code_known, Answered, confirmation, token_whole, sd1, sd2, sd3}
+use Rattle.telegram.proofs.Answers.{Content, content_whole, Frame, code_known, Answered, confirmation, token_whole, sd1, sd2, sd3}
 use Rattle.telegram.proofs.ByteLaws.{drop_bytes, one_byte, two_more, three_bytes}
 use Rattle.telegram.proofs.ReadingLaws.{reason}
 use Rattle.telegram.specs.Begins.{Bytes, document01, StartOf, with_sd1, with_sd2, with_sd3, SapMayBe, DrawsData, Begins}
@@ -129,12 +129,19 @@ module _
         total = simp (length-append, length-take, length-drop) (omega arith);
       }
 
+content_drawn :
+    {s : List ℕ} (at l : ℕ) → Bytes s → 3 ≤ l → StartOf document01 l (take at s) → (fc : FunctionCode)
+    → at + l + 2 ≤ length s → function_code_of (byte_at s (at + 2)) ≡ codeFound.Is fc
+    → {t : Telegram} {n : ℕ} → Content s at l fc (whole t n)
+    → Begins document01 s t n
+content_drawn {s} at l byte low start fc enough known (content_whole fits sum end) =
+    begins_data s byte at l fc low start known enough fits sum end
+
 frame_drawn :
     {s : List ℕ} {t : Telegram} {n : ℕ} (at l : ℕ)
     → Bytes s → 3 ≤ l → StartOf document01 l (take at s) → Frame s at l (whole t n)
     → Begins document01 s t n
-frame_drawn {s} at l byte low start (code_known fc enough known (content_whole fits sum end)) =
-    begins_data s byte at l fc low start known enough fits sum end
+frame_drawn at l byte low start (code_known fc enough known c) = content_drawn at l byte low start fc enough known c
 
 start_one : (s : List ℕ) (b : ℕ) → 6 ≤ length s → byte_at s 0 ≡ b → b ∷ [] ≡ take 1 s
 start_one s b h e = sym (ap (take 1) (one_byte s b (omega arith) e))

@@ -9,7 +9,7 @@ use Rattle.ground.proofs.Injective.{injective}
 use Rattle.ground.proofs.RefusalLaws.{refusal_of, refusal_again}
 use Rattle.ground.specs.Refusals.{number_of}
 use Rattle.ground.specs.declared.refusal.Refusal.{Refusal}
-use Rattle.telegram.proofs.Answers.{sap_missing, sum_differs, end_differs, content_whole, Frame, code_unknown, code_known, Answered, confirmation, token_whole, unknown, lengths_differ, length_small, sd1, sd2, sd3, answered}
+use Rattle.telegram.proofs.Answers.{sap_missing, sum_differs, end_differs, whole_length, whole_data, whole_saps, Frame, code_unknown, code_known, Answered, confirmation, token_whole, unknown, lengths_differ, length_small, sd1, sd2, sd3, answered}
 use Rattle.telegram.specs.Begins.{Bytes}
 use Rattle.telegram.specs.Reading.{Reading, whole, incomplete, refused, header_at, shown_reading, read_of}
 use Rattle.telegram.specs.declared.deserialize.Deserialized.{Deserialized}
@@ -36,9 +36,9 @@ reason s e = rw e at (answered s)
 within : {s : List ℕ} {t : Telegram} {n : ℕ} → Answered s (whole t n) → n ≤ length s
 within (confirmation h e) = h
 within (token_whole h e) = h
-within (sd1 h d (code_known fc g e (content_whole f a b))) = g
-within (sd2 h d q l (code_known fc g e (content_whole f a b))) = g
-within (sd3 h d (code_known fc g e (content_whole f a b))) = g
+within (sd1 h d (code_known fc g e c)) = omega (arith, whole_length fc c)
+within (sd2 h d q l (code_known fc g e c)) = omega (arith, whole_length fc c)
+within (sd3 h d (code_known fc g e c)) = omega (arith, whole_length fc c)
 
 -- A telegram's length lies within the bytes.
 pub total_within : (s : List ℕ) {t : Telegram} {n : ℕ} → read_of s ≡ whole t n → n ≤ length s
@@ -47,9 +47,9 @@ total_within s e = within (reason s e)
 positive : {s : List ℕ} {t : Telegram} {n : ℕ} → Answered s (whole t n) → 1 ≤ n
 positive (confirmation h e) = omega arith
 positive (token_whole h e) = omega arith
-positive (sd1 h d (code_known fc g e (content_whole f a b))) = omega arith
-positive (sd2 h d q l (code_known fc g e (content_whole f a b))) = omega arith
-positive (sd3 h d (code_known fc g e (content_whole f a b))) = omega arith
+positive (sd1 h d (code_known fc g e c)) = omega (arith, whole_length fc c)
+positive (sd2 h d q l (code_known fc g e c)) = omega (arith, whole_length fc c)
+positive (sd3 h d (code_known fc g e c)) = omega (arith, whole_length fc c)
 
 -- No telegram is empty.
 pub total_positive : (s : List ℕ) {t : Telegram} {n : ℕ} → read_of s ≡ whole t n → 1 ≤ n
@@ -58,18 +58,18 @@ total_positive s e = positive (reason s e)
 small : {s : List ℕ} {t : Telegram} {n : ℕ} → Bytes s → Answered s (whole t n) → n ≤ 261
 small byte (confirmation h e) = omega arith
 small byte (token_whole h e) = omega arith
-small byte (sd1 h d (code_known fc g e (content_whole f a b))) = omega arith
-small byte (sd2 h d q l (code_known fc g e (content_whole f a b))) = omega (arith, byte 1)
-small byte (sd3 h d (code_known fc g e (content_whole f a b))) = omega arith
+small byte (sd1 h d (code_known fc g e c)) = omega (arith, whole_length fc c)
+small byte (sd2 h d q l (code_known fc g e c)) = omega (arith, byte 1, whole_length fc c)
+small byte (sd3 h d (code_known fc g e c)) = omega (arith, whole_length fc c)
 
 -- No telegram is longer than 261 bytes.
 pub total_small : (s : List ℕ) {t : Telegram} {n : ℕ} → Bytes s → read_of s ≡ whole t n → n ≤ 261
 total_small s byte e = small byte (reason s e)
 
 ends : {s : List ℕ} {d : DataTelegram} {n : ℕ} → Answered s (whole (Data d) n) → d.pdu.start + d.pdu.len + 2 ≡ n
-ends (sd1 h d (code_known fc g e (content_whole f a b))) = omega arith
-ends (sd2 h d q l (code_known fc g e (content_whole f a b))) = omega arith
-ends (sd3 h d (code_known fc g e (content_whole f a b))) = omega arith
+ends (sd1 h d (code_known fc g e c)) = rw (whole_data fc c, whole_length fc c) (omega (arith, whole_saps fc c))
+ends (sd2 h d q l (code_known fc g e c)) = rw (whole_data fc c, whole_length fc c) (omega (arith, whole_saps fc c))
+ends (sd3 h d (code_known fc g e c)) = rw (whole_data fc c, whole_length fc c) (omega (arith, whole_saps fc c))
 
 -- Behind a telegram's PDU stand the checksum and the end delimiter.
 pub pdu_ends :
@@ -85,9 +85,9 @@ pdu_within s e = omega (arith, pdu_ends s e)
 
 seven_bits : {s : List ℕ} {d : DataTelegram} {n : ℕ} → Answered s (whole (Data d) n) → (d.h.da.0 ≤ 127) × (d.h.sa.0 ≤ 127)
 unfolding header_at
-seven_bits (sd1 h d (code_known fc g e (content_whole f a b))) = omega arith
-seven_bits (sd2 h d q l (code_known fc g e (content_whole f a b))) = omega arith
-seven_bits (sd3 h d (code_known fc g e (content_whole f a b))) = omega arith
+seven_bits (sd1 h d (code_known fc g e c)) = rw (whole_data fc c) (omega arith)
+seven_bits (sd2 h d q l (code_known fc g e c)) = rw (whole_data fc c) (omega arith)
+seven_bits (sd3 h d (code_known fc g e c)) = rw (whole_data fc c) (omega arith)
 
 -- The addresses of a data telegram are at most 127.
 pub addresses_small :

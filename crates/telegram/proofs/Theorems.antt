@@ -4,14 +4,14 @@ use Prim.Native.Nat.{ℕ, ◌+◌, ◌<◌, ◌≤◌}
 use mathlib.Core.Bool.{Bool, true, false}
 use mathlib.Core.List.{List, [], ◌∷◌, ◌++◌}
 use mathlib.Core.Logic.{◌⊎◌, inl, inr, ⊎_elim}
-use mathlib.Core.Path.{◌≡◌, refl, sym, ◌∙◌}
+use mathlib.Core.Path.{◌≡◌, refl, sym, ◌∙◌, ap}
 use native.Mathlib.Omega.{arith}
 use lib.Dec.{eqb, ltb}
 use lib.ListN.{length, take}
 use lib.Seq.{take-append_seam}
 use borrow.Author.Tests.{ltb-true, ltb-false, eqb-true, eqb-false}
 use Rattle.codes.specs.FunctionCodes.{code_byte, CodeRead, as_written, bit7_set}
-use Rattle.ground.specs.Part.{shown_part}
+use Rattle.ground.specs.Part.{byte_at, shown_part}
 use Rattle.codes.specs.declared.function_code.FunctionCode.{FunctionCode}
 use Rattle.telegram.proofs.DrawnLaws.{picture_reads}
 use Rattle.telegram.proofs.OneDrawing.{place_once, drawn_once, lengths_alike, starts_alike}
@@ -153,10 +153,19 @@ only_these_points {t = t} b =
     (λ beyond. inr beyond)
     (points t b.picture b.draws)
 
+starts_not : {l : ℕ} {a b : List ℕ} → a ≡ b → StartBeyond a → StartOf standard l b → ⊥
+starts_not e (length_outside out) with_sd1 = (cc)
+starts_not e (length_outside out) with_sd3 = (cc)
+starts_not e (length_outside (inl low)) (with_sd2 fits again) =
+    let same = ap (λ s. byte_at s 1) e in omega (arith, fits.0, same)
+starts_not e (length_outside (inr high)) (with_sd2 fits again) =
+    let same = ap (λ s. byte_at s 1) e in omega (arith, fits.1, same)
+starts_not e (fourth_not68 other) with_sd1 = (cc)
+starts_not e (fourth_not68 other) with_sd3 = (cc)
+starts_not e (fourth_not68 other) (with_sd2 fits again) = other (ap (λ s. byte_at s 3) e ∙ again)
+
 start_not : {l : ℕ} {start : List ℕ} → StartBeyond start → StartOf standard l start → ⊥
-start_not (length_outside (inl low)) (with_sd2 fits again) = omega (arith, fits.0)
-start_not (length_outside (inr high)) (with_sd2 fits again) = omega (arith, fits.1)
-start_not (fourth_not68 other) (with_sd2 fits again) = other again
+start_not beyond may = starts_not refl beyond may
 
 sap_not : {o : SapOption} → SapBeyond o → SapMayBe standard o → ⊥
 sap_not (above63 high) low = omega arith

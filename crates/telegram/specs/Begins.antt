@@ -2,7 +2,7 @@
 -- under the rules of the standard (`standard`), the wider ones of document 01 (`document01`) and those between the two of strict mode (`strict`).
 -- What is said of the standard here is what people of the trade know of it; its text is not at hand. Points.antt names each point in which
 -- document 01 is wider.
-use Rattle.std.specs.Prelude.{ℕ, ◌+◌, ◌<◌, ◌≤◌, List, [], ◌∷◌, ◌++◌, ◌≡◌, length}
+use Rattle.std.specs.Prelude.{ℕ, ◌<◌, ◌≤◌, List, [], ◌∷◌, ◌++◌, ◌≡◌, length}
 use Rattle.codes.specs.FunctionCodes.{code_byte, CodeRead}
 use Rattle.ground.specs.Part.{byte_at}
 use Rattle.codes.specs.declared.function_code.FunctionCode.{FunctionCode}

@@ -181,14 +181,14 @@ abbrev at_ok : (ℕ → Bytes → ℕ → InitiatorTurn) → AnyInitiator Messag
 at_ok f = hearing (λ i m. on_ok f i.phase m (hear_of i m))
 
 pub confirms_on_the_openings_reply : Refuted (at_ok (λ n q k. reports n (ready low) (confirmed [] k)))
-confirms_on_the_openings_reply = fails _ (orders (1 ∷ []) ∷ to_cabinet ∷ to_head ∷ []) never_done
+confirms_on_the_openings_reply = fails (at_ok (λ n q k. reports n (ready low) (confirmed [] k))) (orders (1 ∷ []) ∷ to_cabinet ∷ to_head ∷ []) never_done
 
 pub counts_both_phases_together : Refuted (at_ok (λ n q k. goes_on n (order_phase low q (suc k)) (order low q)))
 counts_both_phases_together =
-    unopened is_opening _ our_responder 2 two_tries [] (1 ∷ []) (7 ∷ []) (whole ∷ []) (whole ∷ []) tt refl refl tt tt (λ x. x)
+    unopened is_opening (at_ok (λ n q k. goes_on n (order_phase low q (suc k)) (order low q))) our_responder 2 two_tries [] (1 ∷ []) (7 ∷ []) (whole ∷ []) (whole ∷ []) tt refl refl tt tt (λ x. x)
 
 pub cycles_first_to_high : Refuted (at_ok (λ n q k. goes_on n (order_phase high q 1) (order high q)))
-cycles_first_to_high = unopened is_opening _ our_responder 2 two_tries [] (1 ∷ []) (7 ∷ []) [] [] tt refl refl tt tt (λ x. x)
+cycles_first_to_high = unopened is_opening (at_ok (λ n q k. goes_on n (order_phase high q 1) (order high q))) our_responder 2 two_tries [] (1 ∷ []) (7 ∷ []) [] [] tt refl refl tt tt (λ x. x)
 
 -- it takes an order's reply for the opening's
 abbrev as_ok : Phase → Initiator → Message → InitiatorTurn
@@ -203,7 +203,7 @@ as_ok (order_phase b q k) i m = hear_of i m
 
 pub takes_a_reply_for_the_openings : Refuted (hearing (λ i m. as_ok i.phase i m))
 takes_a_reply_for_the_openings =
-    fails _ (first (head_restarts ∷ orders (2 ∷ []) ∷ answer (7 ∷ []) ∷ to_head ∷ to_cabinet ∷ to_head ∷ [])) never_done
+    fails (hearing (λ i m. as_ok i.phase i m)) (first (head_restarts ∷ orders (2 ∷ []) ∷ answer (7 ∷ []) ∷ to_head ∷ to_cabinet ∷ to_head ∷ [])) never_done
 
 -- it gives up one telegram too early
 abbrev one_too_few : AnyInitiator Message
@@ -234,7 +234,7 @@ replaces_asked i (order_phase b p k) q = submit_of i q
 
 pub second_order_in_the_openings_phase : Refuted (submitting (λ i q. replaces_asked i i.phase q))
 second_order_in_the_openings_phase =
-    unopened is_opening _ our_responder 2 two_tries [] (1 ∷ []) (7 ∷ []) (andOrdered (2 ∷ []) ∷ []) [] tt refl refl tt tt (λ x. x)
+    unopened is_opening (submitting (λ i q. replaces_asked i i.phase q)) our_responder 2 two_tries [] (1 ∷ []) (7 ∷ []) (andOrdered (2 ∷ []) ∷ []) [] tt refl refl tt tt (λ x. x)
 
 -- it hears its own order as a reply; and it gives up when it hears its own opening
 abbrev hears_own : (ℕ → ℕ → InitiatorTurn) → (ℕ → Bytes → ℕ → InitiatorTurn) → Phase → Message → InitiatorTurn → InitiatorTurn
@@ -281,7 +281,7 @@ opens_idle (order_phase b q k) t = t
 
 pub opening_with_nothing_pending : Refuted (hushing (λ i. opens_idle i.phase (silence_of i)))
 opening_with_nothing_pending =
-    unanswered is_opening _ our_responder 2 two_tries (first (answer (7 ∷ []) ∷ to_head ∷ silence ∷ to_cabinet ∷ [])) (2 ∷ []) (8 ∷ []) [] tt refl refl
+    unanswered is_opening (hushing (λ i. opens_idle i.phase (silence_of i))) our_responder 2 two_tries (first (answer (7 ∷ []) ∷ to_head ∷ silence ∷ to_cabinet ∷ [])) (2 ∷ []) (8 ∷ []) [] tt refl refl
     tt (λ x. x)
 
 -- a hearing refused for want of room cycles the bit all the same
@@ -331,10 +331,10 @@ refused_silence_uses_a_try =
 
 -- its reader gives the opening's reply, or one order's reply, for all bytes
 pub hears_only_the_openings_reply : Refuted (hearing (λ i m. hear_of i ok))
-hears_only_the_openings_reply = unopened is_opening _ our_responder 2 two_tries [] (1 ∷ []) (7 ∷ []) [] [] tt refl refl tt tt (λ x. x)
+hears_only_the_openings_reply = unopened is_opening (hearing (λ i m. hear_of i ok)) our_responder 2 two_tries [] (1 ∷ []) (7 ∷ []) [] [] tt refl refl tt tt (λ x. x)
 
 pub hears_only_one_reply : Refuted (hearing (λ i m. hear_of i (reply (9 ∷ []))))
-hears_only_one_reply = unopened is_opening _ our_responder 2 two_tries [] (1 ∷ []) (7 ∷ []) [] [] tt refl refl tt tt (λ x. x)
+hears_only_one_reply = unopened is_opening (hearing (λ i m. hear_of i (reply (9 ∷ [])))) our_responder 2 two_tries [] (1 ∷ []) (7 ∷ []) [] [] tt refl refl tt tt (λ x. x)
 
 -- it shows the reply of the order before
 abbrev Remembering : Type 0
@@ -402,7 +402,7 @@ when_closed (order_phase b p k) i q = submit_of i q
 
 pub refuses_on_an_open_link : Refuted (submitting (λ i q. when_closed i.phase i q))
 refuses_on_an_open_link =
-    untaken is_opening _ our_responder 2 two_tries (first (answer (7 ∷ []) ∷ to_head ∷ [])) (2 ∷ []) refl (λ x. x)
+    untaken is_opening (submitting (λ i q. when_closed i.phase i q)) our_responder 2 two_tries (first (answer (7 ∷ []) ∷ to_head ∷ [])) (2 ∷ []) refl (λ x. x)
 
 -- restarted in the opening's phase it reports not sent, and yet sends the order when the opening's reply, in flight all the
 -- while, is heard; else it is as if closed

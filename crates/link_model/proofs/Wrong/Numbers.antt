@@ -2,16 +2,15 @@
 -- before; each handing up has the same; an answer with another number drops the debt. For each of them `AnswersByNumber` is refuted, by the run
 -- of a slow cabinet: the application finishes its first order after the second was handed up.
 use Prim.Native.Nat.{ℕ, suc, ◌≤◌}
-use lib.Dec.{eqb, lit≤}
+use lib.Dec.{eqb}
 use mathlib.Core.Bool.{Bool, true, false, true≢false}
 use mathlib.Core.List.{List, [], ◌∷◌}
 use mathlib.Core.Logic.{inl, inr}
-use mathlib.Core.Option.{none}
-use mathlib.Core.Path.{◌≡◌, refl, sym, ap, ◌∙◌}
+use mathlib.Core.Path.{◌≡◌, refl, ap}
 use native.Mathlib.Omega.{arith}
 use Rattle.ground.specs.Pick.{if}
 use Rattle.demand_3.specs.Line.{State, Call, submits, silent, initiator_hears, responder_hears, step, start, in_flight, Lawful}
-use Rattle.demand_3.specs.Numbers.{Numbering, Label, Answer, Log, logged, answered_by, given_by, WithNumber, Among, no_log, Comes, begins, goes_on, is_answered, AnswersByNumber}
+use Rattle.demand_3.specs.Numbers.{Numbering, Label, Answer, Log, logged, WithNumber, Among, no_log, Comes, begins, goes_on, is_answered, AnswersByNumber}
 use Rattle.demand_3.specs.Turns.{Bytes, Told, refused, nothing, tells, Turn, refusing}
 use Rattle.link_model.proofs.Wrong.Tools.{one_try}
 use Rattle.link_model.specs.Counting.{Counting, counting, by_count}

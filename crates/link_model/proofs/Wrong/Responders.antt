@@ -54,7 +54,7 @@ fails c ds bad = unsafe is_opening our_initiator c 2 two_tries ds bad
 
 -- it never answers
 pub never_answers : Refuted (hearing (λ r m. ignoring r))
-never_answers = unopened is_opening our_initiator _ 2 two_tries [] (1 ∷ []) (7 ∷ []) [] [] tt refl refl tt tt (λ x. x)
+never_answers = unopened is_opening our_initiator (hearing (λ r m. ignoring r)) 2 two_tries [] (1 ∷ []) (7 ∷ []) [] [] tt refl refl tt tt (λ x. x)
 
 -- its reply is not sent when it is made
 abbrev holds_back : Row → Bytes → RowTurn
@@ -64,7 +64,7 @@ holds_back (owes b) p = record { next = holds b p; writes = none; says = nothing
 holds_back (holds b r) p = refusing (holds b r)
 
 pub reply_held_back : Refuted (answering holds_back)
-reply_held_back = unopened is_opening our_initiator _ 2 two_tries [] (1 ∷ []) (7 ∷ []) [] [] tt refl refl tt tt (λ x. x)
+reply_held_back = unopened is_opening our_initiator (answering holds_back) 2 two_tries [] (1 ∷ []) (7 ∷ []) [] [] tt refl refl tt tt (λ x. x)
 
 -- after its first order it only replies
 abbrev only_replies : Row → Message → RowTurn
@@ -161,7 +161,7 @@ waits_for_two (owes c) b q = hands_up b q
 waits_for_two (holds c p) b q = row_hears (holds c p) (order b q)
 
 pub hands_up_the_second_copy : Refuted (taking waits_for_two)
-hands_up_the_second_copy = unopened is_opening our_initiator _ 2 two_tries [] (1 ∷ []) (7 ∷ []) [] [] tt refl refl tt tt (λ x. x)
+hands_up_the_second_copy = unopened is_opening our_initiator (taking waits_for_two) 2 two_tries [] (1 ∷ []) (7 ∷ []) [] [] tt refl refl tt tt (λ x. x)
 
 -- with the hand-up it sends the reply that it held
 abbrev old_at_once : Row → Bit → Bytes → RowTurn
@@ -205,7 +205,7 @@ answers_behind r p =
 
 pub carries_out_the_order_before : Refuted (responder_by {E = Behind} (blank, []) hears_behind answers_behind (λ r. (blank, [])))
 carries_out_the_order_before =
-    fails _ (first (answer (7 ∷ []) ∷ to_head ∷ orders (2 ∷ []) ∷ to_cabinet ∷ [])) (other_order tt)
+    fails (responder_by {E = Behind} (blank, []) hears_behind answers_behind (λ r. (blank, []))) (first (answer (7 ∷ []) ∷ to_head ∷ orders (2 ∷ []) ∷ to_cabinet ∷ [])) (other_order tt)
 
 -- it hands up again while the reply is owed
 abbrev owed_again : Row → Bit → Bytes → RowTurn
@@ -236,7 +236,7 @@ opens_low (owes c) b q = row_hears (owes c) (order b q)
 opens_low (holds c p) b q = row_hears (holds c p) (order b q)
 
 pub opening_stores_bit_0 : Refuted (taking opens_low)
-opening_stores_bit_0 = unopened is_opening our_initiator _ 2 two_tries [] (1 ∷ []) (7 ∷ []) [] [] tt refl refl tt tt (λ x. x)
+opening_stores_bit_0 = unopened is_opening our_initiator (taking opens_low) 2 two_tries [] (1 ∷ []) (7 ∷ []) [] [] tt refl refl tt tt (λ x. x)
 
 -- a restart keeps what is owed and held, with bit 1
 abbrev remembers : Row → Row
@@ -246,7 +246,7 @@ remembers (owes b) = owes high
 remembers (holds b p) = holds high p
 
 pub remembers_over_a_restart : Refuted (responder_by blank row_hears row_answers remembers)
-remembers_over_a_restart = fails _ (first (cabinet_restarts ∷ silence ∷ to_cabinet ∷ [])) done_twice
+remembers_over_a_restart = fails (responder_by blank row_hears row_answers remembers) (first (cabinet_restarts ∷ silence ∷ to_cabinet ∷ [])) done_twice
 
 -- a hearing refused for want of room stores the bit of the order
 abbrev stores_heard : Row → Message → Row
@@ -274,10 +274,10 @@ refused_hearing_stores_the_bit =
 
 -- its reader gives an opening, or one order, for all bytes
 pub hears_only_openings : Refuted (hearing (λ r m. row_hears r opening))
-hears_only_openings = unopened is_opening our_initiator _ 2 two_tries [] (1 ∷ []) (7 ∷ []) [] [] tt refl refl tt tt (λ x. x)
+hears_only_openings = unopened is_opening our_initiator (hearing (λ r m. row_hears r opening)) 2 two_tries [] (1 ∷ []) (7 ∷ []) [] [] tt refl refl tt tt (λ x. x)
 
 pub hears_only_one_order : Refuted (hearing (λ r m. row_hears r (order low (1 ∷ []))))
-hears_only_one_order = unopened is_opening our_initiator _ 2 two_tries [] (1 ∷ []) (7 ∷ []) [] [] tt refl refl tt tt (λ x. x)
+hears_only_one_order = unopened is_opening our_initiator (hearing (λ r m. row_hears r (order low (1 ∷ [])))) 2 two_tries [] (1 ∷ []) (7 ∷ []) [] [] tt refl refl tt tt (λ x. x)
 
 -- Cabinets that can let go of a held reply and keep its bit: beside the row stands whether the reply is gone. They take
 -- an order so: the first says whether the bit is the stored one, the second whether a repeated reply is let go.
@@ -313,7 +313,7 @@ fading f lets = responder_by (blank, false) (fading_hears f lets) answers_fading
 -- it lets go of the held reply once it has repeated it
 pub repeats_the_reply_once : Refuted (fading (λ r. (opened, false)) true)
 repeats_the_reply_once =
-    unopened is_opening our_initiator _ 3 three_tries [] (1 ∷ []) (7 ∷ []) [] (andReached (7 ∷ []) ∷ andReached (7 ∷ []) ∷ []) tt refl refl
+    unopened is_opening our_initiator (fading (λ r. (opened, false)) true) 3 three_tries [] (1 ∷ []) (7 ∷ []) [] (andReached (7 ∷ []) ∷ andReached (7 ∷ []) ∷ []) tt refl refl
     tt tt (λ x. x)
 
 -- an opening keeps the stored bit and drops the reply
@@ -325,5 +325,5 @@ keeps_stored (holds b p) = (holds b p, true)
 
 pub opening_keeps_a_stored_bit : Refuted (fading keeps_stored false)
 opening_keeps_a_stored_bit =
-    unopened is_opening our_initiator _ 2 two_tries (first (answer (7 ∷ []) ∷ to_head ∷ head_restarts ∷ [])) (2 ∷ []) (8 ∷ []) [] [] tt refl refl
+    unopened is_opening our_initiator (fading keeps_stored false) 2 two_tries (first (answer (7 ∷ []) ∷ to_head ∷ head_restarts ∷ [])) (2 ∷ []) (8 ∷ []) [] [] tt refl refl
     tt tt (λ x. x)

@@ -1,6 +1,6 @@
 -- `checksum` meets its contract. The loop's invariant: the sum so far and the bytes that are left add up to the whole.
-use Rattle.std.proofs.Common.{◌-◌, ◌<◌, ◌≤◌, length, ◌∙◌, mod-lt, arith, lit<, rules}
-use Rattle.codes.proofs.ChecksumLaws.{Summed, summed_from_0, sum_starts, sum_goes_on, sum_ends}
+use Rattle.std.proofs.Common.{◌∙◌, mod-lt, arith, lit<}
+use Rattle.codes.proofs.ChecksumLaws.{summed_from_0, sum_starts, sum_goes_on, sum_ends}
 use Rattle.codes.proofs.frame_check.checksum.Goals as goal
 
 pub loop-i-init : goal.loop-i-init
@@ -10,8 +10,8 @@ pub loop-i-preserved : goal.loop-i-preserved
 loop-i-preserved c =
     let l = c.loop-i in (
       omega arith,
-      rw c.wrapping_add_u8-sum.ensures (mod-lt _ (lit< tt)),
-      rw c.wrapping_add_u8-sum.ensures (sum_goes_on _ _ _ _ c.loop-i-test.true l.invariant.2),
+      rw c.wrapping_add_u8-sum.ensures.value (mod-lt _ (lit< tt)),
+      rw c.wrapping_add_u8-sum.ensures.value (sum_goes_on _ _ _ _ c.loop-i-test.true l.invariant.2),
     )
 
 pub returns : goal.returns

@@ -1,6 +1,6 @@
 -- `checksum` meets its contract. The loop's invariant: the sum so far and the bytes that are left add up to the whole.
-use Rattle.std.proofs.Common.{◌-◌, ◌<◌, ◌≤◌, length, ◌∙◌, mod-lt, arith, lit<, rules}
-use Rattle.codes.proofs.ChecksumLaws.{Summed, summed_from_0, sum_starts, sum_goes_on, sum_ends}
+use Rattle.std.proofs.Common.{◌-◌, ◌<◌, ◌≤◌, length}
+use Rattle.codes.proofs.ChecksumLaws.{Summed}
 use Rattle.codes.proofs.frame_check.checksum.Given as goal
 
 abbrev pub invariant-loop-i : goal.invariant-loop-i

@@ -1,5 +1,5 @@
 -- `FunctionCode::reply_to_byte` meets its contract: what is told on either side of bit 6 is told of the whole byte.
-use Rattle.std.proofs.Common.{◌∙◌, arith, rules}
+use Rattle.std.proofs.Common.{◌∙◌, arith}
 use Rattle.codes.proofs.FunctionCodeLaws.{request_reply, response_reply}
 use Rattle.codes.proofs.function_code.FunctionCode.reply_to_byte.Goals as goal
 

@@ -1,7 +1,5 @@
 -- `FunctionCode::to_byte` meets its contract: each arm is a clause of `code_byte`, and its sums stay in a byte.
-use Rattle.std.proofs.Common.{arith, rules}
 use Rattle.codes.specs.FunctionCodes.{code_byte}
-use Rattle.codes.proofs.NumberLaws.{frame_count_part_small, request_number_small, state_number_small, status_number_small}
 use Rattle.codes.proofs.function_code.FunctionCode.to_byte.Goals as goal
 
 pub returns-in-Request : goal.returns-in-Request

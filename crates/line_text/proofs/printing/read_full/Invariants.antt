@@ -1,3 +1,4 @@
+-- What was read lies within the buffer, and a turn that goes on has read a byte.
 use Rattle.std.proofs.Common.{◌-◌, ◌≤◌, length}
 use Rattle.line_text.proofs.printing.read_full.Given as goal
 

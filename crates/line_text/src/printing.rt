@@ -4,8 +4,8 @@ ghost use Rattle.std.specs.Prelude.{◌≤◌, length};
 use std::io;
 use std::io::{Print, Read, Stderr, Stdin, Stdout};
 
-// The streams of a program, and the first read and the first write to standard output that failed, which `end` gives back: behind it nothing
-// more is read or written. So a step is what it is promised to be whether or not it could be told, and `main` says that it could not.
+// The streams of a program. A read that fails is kept for `end`, and so is a write to standard output that fails, behind which nothing more is
+// written. So a step is what it is promised to be whether or not it could be told, and `main` says that it could not.
 #[derive(Drop)]
 pub struct Streams {
     stdin: Stdin,

@@ -6,7 +6,7 @@ use diagnostics_blocks::{ChannelDataType, ChannelDiagnostics, ChannelError, Modu
 use line_text::printing::Streams;
 
 // The first module at or above a number whose bit is set, and where to look for the next one.
-fn print_from(streams: &mut Streams, body: &[u8], from: usize) -> usize {
+fn print_from(streams: &Streams, body: &[u8], from: usize) -> usize {
     let found = first_set(body, from);
     let Module::At(at) = found else {
         print::text(streams, b"-");
@@ -16,7 +16,7 @@ fn print_from(streams: &mut Streams, body: &[u8], from: usize) -> usize {
     if at < 495 { at + 1 } else { at }
 }
 
-fn print_identifier(streams: &mut Streams, body: &[u8]) {
+fn print_identifier(streams: &Streams, body: &[u8]) {
     print::text(streams, b" modules=");
     let second = print_from(streams, body, 0);
     print::text(streams, b",");
@@ -25,7 +25,7 @@ fn print_identifier(streams: &mut Streams, body: &[u8]) {
     print_from(streams, body, third);
 }
 
-fn print_type(streams: &mut Streams, dtype: ChannelDataType) {
+fn print_type(streams: &Streams, dtype: ChannelDataType) {
     match dtype {
         ChannelDataType::Bit => print::text(streams, b"Bit"),
         ChannelDataType::Bit2 => print::text(streams, b"Bit2"),
@@ -37,7 +37,7 @@ fn print_type(streams: &mut Streams, dtype: ChannelDataType) {
     }
 }
 
-fn print_error(streams: &mut Streams, error: ChannelError) {
+fn print_error(streams: &Streams, error: ChannelError) {
     match error {
         ChannelError::ShortCircuit => print::text(streams, b"ShortCircuit"),
         ChannelError::UnderVoltage => print::text(streams, b"UnderVoltage"),
@@ -53,7 +53,7 @@ fn print_error(streams: &mut Streams, error: ChannelError) {
     }
 }
 
-fn print_channel(streams: &mut Streams, channel: ChannelDiagnostics) {
+fn print_channel(streams: &Streams, channel: ChannelDiagnostics) {
     let dtype = channel.dtype;
     let error = channel.error;
     print::named_byte(streams, b" module=", channel.module);
@@ -66,12 +66,7 @@ fn print_channel(streams: &mut Streams, channel: ChannelDiagnostics) {
     print_error(streams, error);
 }
 
-fn print_block(
-    streams: &mut Streams,
-    block: ExtDiagBlock,
-    diag: ExtendedDiagnostics,
-    store: &[u8],
-) {
+fn print_block(streams: &Streams, block: ExtDiagBlock, diag: ExtendedDiagnostics, store: &[u8]) {
     match block {
         ExtDiagBlock::Identifier(body) => print_identifier(
             streams,
@@ -85,7 +80,7 @@ fn print_block(
     }
 }
 
-fn print_found(streams: &mut Streams, found: Found, diag: ExtendedDiagnostics, store: &[u8]) {
+fn print_found(streams: &Streams, found: Found, diag: ExtendedDiagnostics, store: &[u8]) {
     match found {
         Found::Block(block) => print_block(streams, block, diag, store),
         Found::End => print::text(streams, b" answer=end"),
@@ -93,7 +88,7 @@ fn print_found(streams: &mut Streams, found: Found, diag: ExtendedDiagnostics, s
     }
 }
 
-fn first(streams: &mut Streams, name: &[u8], store: &[u8]) {
+fn first(streams: &Streams, name: &[u8], store: &[u8]) {
     print::sample(streams, name);
     let diag = ExtendedDiagnostics {
         length: store.len(),
@@ -106,7 +101,7 @@ fn first(streams: &mut Streams, name: &[u8], store: &[u8]) {
     print::end(streams);
 }
 
-pub(crate) fn samples(streams: &mut Streams) {
+pub(crate) fn samples(streams: &Streams) {
     first(streams, b"42-05", b"\x42\x05");
     first(streams, b"83-C1-26", b"\x83\xC1\x26");
     first(streams, b"40", b"\x40");

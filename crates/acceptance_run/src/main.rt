@@ -12,10 +12,10 @@ use line_text::printing::Streams;
 use std::io;
 
 fn main(rt: HostRuntime) -> io::Result<()> {
-    let mut streams = Streams::new(rt.stdin(), rt.stdout(), rt.stderr());
-    reading::samples(&mut streams);
-    stations::samples(&mut streams);
-    blocks::samples(&mut streams);
-    writing::samples(&mut streams);
+    let streams = Streams::new(rt.stdin(), rt.stdout(), rt.stderr());
+    reading::samples(&streams);
+    stations::samples(&streams);
+    blocks::samples(&streams);
+    writing::samples(&streams);
     streams.end()
 }

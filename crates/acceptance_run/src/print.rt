@@ -2,39 +2,39 @@
 use ground::Refusal;
 use line_text::printing::{Streams, print, print_decimal};
 
-pub(crate) fn text(streams: &mut Streams, bytes: &[u8]) {
+pub(crate) fn text(streams: &Streams, bytes: &[u8]) {
     print(streams, bytes);
 }
 
-pub(crate) fn decimal(streams: &mut Streams, number: usize) {
+pub(crate) fn decimal(streams: &Streams, number: usize) {
     print_decimal(streams, number);
 }
 
-pub(crate) fn byte(streams: &mut Streams, number: u8) {
+pub(crate) fn byte(streams: &Streams, number: u8) {
     print_decimal(streams, number as usize);
 }
 
 // A number behind its key.
-pub(crate) fn named_decimal(streams: &mut Streams, key: &[u8], number: usize) {
+pub(crate) fn named_decimal(streams: &Streams, key: &[u8], number: usize) {
     text(streams, key);
     decimal(streams, number);
 }
 
-pub(crate) fn named_byte(streams: &mut Streams, key: &[u8], number: u8) {
+pub(crate) fn named_byte(streams: &Streams, key: &[u8], number: u8) {
     text(streams, key);
     byte(streams, number);
 }
 
-pub(crate) fn sample(streams: &mut Streams, name: &[u8]) {
+pub(crate) fn sample(streams: &Streams, name: &[u8]) {
     text(streams, b"sample=");
     text(streams, name);
 }
 
-pub(crate) fn refused(streams: &mut Streams, refusal: Refusal) {
+pub(crate) fn refused(streams: &Streams, refusal: Refusal) {
     named_byte(streams, b" refused=", refusal.number());
 }
 
-pub(crate) fn named_flag(streams: &mut Streams, key: &[u8], on: bool) {
+pub(crate) fn named_flag(streams: &Streams, key: &[u8], on: bool) {
     text(streams, key);
     if on {
         text(streams, b"yes");
@@ -43,6 +43,6 @@ pub(crate) fn named_flag(streams: &mut Streams, key: &[u8], on: bool) {
     }
 }
 
-pub(crate) fn end(streams: &mut Streams) {
+pub(crate) fn end(streams: &Streams) {
     text(streams, b"\n");
 }

@@ -3,7 +3,7 @@ use crate::print;
 use line_text::printing::Streams;
 use telegram::{DataTelegram, Deserialized, SapOption, Telegram};
 
-fn print_sap(streams: &mut Streams, key: &[u8], sap: SapOption) {
+fn print_sap(streams: &Streams, key: &[u8], sap: SapOption) {
     print::text(streams, key);
     match sap {
         SapOption::Some(sap) => print::byte(streams, sap.0),
@@ -11,7 +11,7 @@ fn print_sap(streams: &mut Streams, key: &[u8], sap: SapOption) {
     }
 }
 
-fn print_header(streams: &mut Streams, t: DataTelegram) {
+fn print_header(streams: &Streams, t: DataTelegram) {
     let h = t.h;
     let dsap = h.dsap;
     let ssap = h.ssap;
@@ -24,7 +24,7 @@ fn print_header(streams: &mut Streams, t: DataTelegram) {
 }
 
 // The PDU's length, and its first bytes where it has two.
-fn print_pdu(streams: &mut Streams, pdu: &[u8]) {
+fn print_pdu(streams: &Streams, pdu: &[u8]) {
     print::named_decimal(streams, b" pdu=", pdu.len());
     if pdu.len() == 2 {
         print::named_byte(streams, b" bytes=", pdu[0]);
@@ -32,7 +32,7 @@ fn print_pdu(streams: &mut Streams, pdu: &[u8]) {
     }
 }
 
-fn print_telegram(streams: &mut Streams, telegram: Telegram, bytes: &[u8]) {
+fn print_telegram(streams: &Streams, telegram: Telegram, bytes: &[u8]) {
     match telegram {
         Telegram::Data(t) => {
             print_header(streams, t);
@@ -43,7 +43,7 @@ fn print_telegram(streams: &mut Streams, telegram: Telegram, bytes: &[u8]) {
     }
 }
 
-pub(crate) fn read(streams: &mut Streams, name: &[u8], bytes: &[u8]) {
+pub(crate) fn read(streams: &Streams, name: &[u8], bytes: &[u8]) {
     print::sample(streams, name);
     match Telegram::deserialize(bytes) {
         Deserialized::Telegram(telegram, total) => {
@@ -56,7 +56,7 @@ pub(crate) fn read(streams: &mut Streams, name: &[u8], bytes: &[u8]) {
     print::end(streams);
 }
 
-pub(crate) fn samples(streams: &mut Streams) {
+pub(crate) fn samples(streams: &Streams) {
     read(
         streams,
         b"order-at-low",

@@ -5,7 +5,7 @@ use line_text::printing::Streams;
 use token_ring::{Found, LasState, TokenRing};
 
 // The first active station from an address upward, and where to look for the next one.
-fn print_from(streams: &mut Streams, ring: TokenRing, from: u8) -> u8 {
+fn print_from(streams: &Streams, ring: TokenRing, from: u8) -> u8 {
     let found = ring.first_active_from(Address(from));
     let Found::Station(station) = found else {
         print::text(streams, b"-");
@@ -17,7 +17,7 @@ fn print_from(streams: &mut Streams, ring: TokenRing, from: u8) -> u8 {
 }
 
 // No sample leaves more than three.
-fn print_stations(streams: &mut Streams, ring: TokenRing) {
+fn print_stations(streams: &Streams, ring: TokenRing) {
     print::text(streams, b" stations=");
     let second = print_from(streams, ring, 0);
     print::text(streams, b",");
@@ -28,7 +28,7 @@ fn print_stations(streams: &mut Streams, ring: TokenRing) {
     print_from(streams, ring, fourth);
 }
 
-fn print_phase(streams: &mut Streams, phase: LasState) {
+fn print_phase(streams: &Streams, phase: LasState) {
     match phase {
         LasState::Uninitialized => print::text(streams, b"Uninitialized"),
         LasState::Discovery => print::text(streams, b"Discovery"),
@@ -37,7 +37,7 @@ fn print_phase(streams: &mut Streams, phase: LasState) {
     }
 }
 
-fn print_list(streams: &mut Streams, name: &[u8], ring: TokenRing) {
+fn print_list(streams: &Streams, name: &[u8], ring: TokenRing) {
     print::sample(streams, name);
     print_stations(streams, ring);
     let next = ring.next_station();
@@ -63,7 +63,7 @@ fn round(ring: TokenRing) -> TokenRing {
     pass(pass(pass(ring, 2, 5), 5, 9), 9, 2)
 }
 
-pub(crate) fn samples(streams: &mut Streams) {
+pub(crate) fn samples(streams: &Streams) {
     let seven = round(pass(own(7), 9, 2));
     print_list(streams, b"own-7", seven);
     print_list(streams, b"own-7-again", round(seven));

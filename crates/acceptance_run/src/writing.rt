@@ -17,7 +17,7 @@ fn header() -> DataTelegramHeader {
     }
 }
 
-fn print_replier(streams: &mut Streams, replier: AddressOption) {
+fn print_replier(streams: &Streams, replier: AddressOption) {
     print::text(streams, b" reply-from=");
     match replier {
         AddressOption::Some(address) => print::byte(streams, address.0),
@@ -25,7 +25,7 @@ fn print_replier(streams: &mut Streams, replier: AddressOption) {
     }
 }
 
-fn write(streams: &mut Streams, name: &[u8], pdu: &[u8], buf: &mut [u8]) {
+fn write(streams: &Streams, name: &[u8], pdu: &[u8], buf: &mut [u8]) {
     print::sample(streams, name);
     match send_data_telegram(header(), pdu, buf) {
         TelegramTxResult::Sent(response) => {
@@ -41,13 +41,13 @@ fn write(streams: &mut Streams, name: &[u8], pdu: &[u8], buf: &mut [u8]) {
 }
 
 // The longest, and reading it again.
-fn longest(streams: &mut Streams) {
+fn longest(streams: &Streams) {
     let mut room = [0xAAu8; 255];
     write(streams, b"pdu-246", &[7u8; 246], &mut room);
     reading::read(streams, b"pdu-246-read", &room);
 }
 
-pub(crate) fn samples(streams: &mut Streams) {
+pub(crate) fn samples(streams: &Streams) {
     longest(streams);
     write(streams, b"pdu-247", &[7u8; 247], &mut [0xAAu8; 255]);
     write(streams, b"pdu-246-in-254", &[7u8; 246], &mut [0xAAu8; 254]);

@@ -6,7 +6,7 @@ use line_text::words::{Input, is_end};
 use listing::LISTING_ROOM;
 
 // A byte of the text, with `|` for a line feed.
-fn put_joined_byte(streams: &mut Streams, out: &mut Out, to: usize, b: u8) -> usize {
+fn put_joined_byte(streams: &Streams, out: &mut Out, to: usize, b: u8) -> usize {
     let room = flushed(streams, out, to);
     if b == b'\n' {
         return put_char(out, room, b'|');
@@ -15,7 +15,7 @@ fn put_joined_byte(streams: &mut Streams, out: &mut Out, to: usize, b: u8) -> us
 }
 
 // The lines without the last line feed.
-fn put_joined(streams: &mut Streams, out: &mut Out, to: usize, lines: &[u8]) -> usize {
+fn put_joined(streams: &Streams, out: &mut Out, to: usize, lines: &[u8]) -> usize {
     let mut at = to;
     let mut i = 1;
     while i < lines.len() {
@@ -26,7 +26,7 @@ fn put_joined(streams: &mut Streams, out: &mut Out, to: usize, lines: &[u8]) -> 
 }
 
 pub(crate) fn lister(
-    streams: &mut Streams,
+    streams: &Streams,
     input: &Input,
     at: usize,
     out: &mut Out,
@@ -40,7 +40,7 @@ pub(crate) fn lister(
     put_listing(streams, out, to, shown(&bytes, word.value))
 }
 
-fn put_listing(streams: &mut Streams, out: &mut Out, to: usize, bytes: &[u8]) -> usize {
+fn put_listing(streams: &Streams, out: &mut Out, to: usize, bytes: &[u8]) -> usize {
     let mut room = [0u8; LISTING_ROOM];
     let listed = listing::output(bytes, &mut room);
     put_joined(streams, out, to, listed.text(&room))

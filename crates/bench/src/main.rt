@@ -26,7 +26,7 @@ const OUT: usize = 65536;
 
 // The commands that no subject's crate has.
 fn own_command(
-    streams: &mut Streams,
+    streams: &Streams,
     number: usize,
     input: &Input,
     at: usize,
@@ -41,13 +41,7 @@ fn own_command(
 }
 
 // Each subject has names of its own; the first that knows the name answers.
-fn plain_command(
-    streams: &mut Streams,
-    input: &Input,
-    at: usize,
-    out: &mut Out,
-    to: usize,
-) -> usize {
+fn plain_command(streams: &Streams, input: &Input, at: usize, out: &mut Out, to: usize) -> usize {
     if let Answered::Until(end) = bench_telegrams::answer(input, at, out, to) {
         return end;
     }
@@ -61,7 +55,7 @@ fn plain_command(
     own_command(streams, name.number, input, name.next, out, to)
 }
 
-fn answer(streams: &mut Streams, input: &Input, at: usize, mut ends: Ends, out: &mut Out) -> Ends {
+fn answer(streams: &Streams, input: &Input, at: usize, mut ends: Ends, out: &mut Out) -> Ends {
     if bench_link::is_named(input, at) {
         return bench_link::play(input, at, ends, out);
     }
@@ -76,7 +70,7 @@ fn ended(mut ends: Ends, out: &mut Out) -> Ends {
 }
 
 fn answer_line(
-    streams: &mut Streams,
+    streams: &Streams,
     input: &Input,
     at: usize,
     len: usize,
@@ -116,7 +110,7 @@ fn tell_reason(streams: &Streams, out: &Out, at: usize, number: usize) {
 }
 
 fn play_line(
-    streams: &mut Streams,
+    streams: &Streams,
     input: &Input,
     at: usize,
     len: usize,
@@ -136,7 +130,7 @@ fn play_line(
     after
 }
 
-fn run(streams: &mut Streams, input: &Input, len: usize, out: &mut Out)
+fn run(streams: &Streams, input: &Input, len: usize, out: &mut Out)
     requires { len ≤ 1048576 }
 {
     let mut ends = bench_link::no_ends();
@@ -156,11 +150,11 @@ fn input_buffer() -> Input {
 }
 
 fn main(rt: HostRuntime) -> io::Result<()> {
-    let mut streams = Streams::new(rt.stdin(), rt.stdout(), rt.stderr());
+    let streams = Streams::new(rt.stdin(), rt.stdout(), rt.stderr());
     let mut input = input_buffer();
-    let n = read_full(&mut streams, &mut input);
+    let n = read_full(&streams, &mut input);
     if INPUT < n {
-        print(&mut streams, b"error\n");
+        print(&streams, b"error\n");
         print_error(&streams, b"bench: more than 1,048,576 bytes\n");
         return streams.end();
     }
@@ -170,6 +164,6 @@ fn main(rt: HostRuntime) -> io::Result<()> {
     }
     input[n] = b'\n';
     let mut out = [0u8; 65536];
-    run(&mut streams, &input, n, &mut out);
+    run(&streams, &input, n, &mut out);
     streams.end()
 }

@@ -10,7 +10,7 @@ use line_text::printing::Streams;
 use line_text::words::{Input, number_of};
 
 fn command(
-    streams: &mut Streams,
+    streams: &Streams,
     number: usize,
     input: &Input,
     at: usize,
@@ -26,13 +26,7 @@ fn command(
     }
 }
 
-pub fn answer(
-    streams: &mut Streams,
-    input: &Input,
-    at: usize,
-    out: &mut Out,
-    to: usize,
-) -> Answered {
+pub fn answer(streams: &Streams, input: &Input, at: usize, out: &mut Out, to: usize) -> Answered {
     let name = number_of(input, at, b"diag step raw store ");
     command(streams, name.number, input, name.next, out, to)
 }

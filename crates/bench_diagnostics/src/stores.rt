@@ -45,13 +45,7 @@ fn byte_strings_end(input: &Input, from: usize, bytes: &mut Bytes) -> usize {
     at
 }
 
-fn put_filled(
-    streams: &mut Streams,
-    out: &mut Out,
-    to: usize,
-    filled: Filled,
-    store: &[u8],
-) -> usize {
+fn put_filled(streams: &Streams, out: &mut Out, to: usize, filled: Filled, store: &[u8]) -> usize {
     let diag = filled.diag;
     let room = flushed(streams, out, to);
     let len_at = put_name(out, room, b"false true ", filled.filled as usize);
@@ -61,7 +55,7 @@ fn put_filled(
 }
 
 fn put_fillings(
-    streams: &mut Streams,
+    streams: &Streams,
     input: &Input,
     from: usize,
     bytes: &mut Bytes,
@@ -87,7 +81,7 @@ fn put_fillings(
 
 // `store ROOM DATA…`
 pub(crate) fn store(
-    streams: &mut Streams,
+    streams: &Streams,
     input: &Input,
     at: usize,
     out: &mut Out,
@@ -104,7 +98,7 @@ pub(crate) fn store(
 
 // The store is the first ROOM bytes of a buffer that is as long as a ROOM may be.
 fn put_store(
-    streams: &mut Streams,
+    streams: &Streams,
     input: &Input,
     at: usize,
     bytes: &mut Bytes,

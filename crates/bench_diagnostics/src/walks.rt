@@ -51,7 +51,7 @@ struct Walked {
 }
 
 fn walk_step(
-    streams: &mut Streams,
+    streams: &Streams,
     out: &mut Out,
     to: usize,
     cursor: usize,
@@ -74,7 +74,7 @@ fn walk_step(
 
 // A step that finds a block always goes on, and within the store. The test of it is what shows that the loop ends.
 pub(crate) fn put_walk(
-    streams: &mut Streams,
+    streams: &Streams,
     out: &mut Out,
     to: usize,
     diag: ExtendedDiagnostics,
@@ -93,13 +93,7 @@ pub(crate) fn put_walk(
 }
 
 // `diag HEX`: the store is just these bytes.
-pub(crate) fn diag(
-    streams: &mut Streams,
-    input: &Input,
-    at: usize,
-    out: &mut Out,
-    to: usize,
-) -> usize {
+pub(crate) fn diag(streams: &Streams, input: &Input, at: usize, out: &mut Out, to: usize) -> usize {
     let mut bytes = [0u8; 4200];
     let store = get_hex(input, at, &mut bytes);
     if !is_end(input, store.next) {
@@ -108,7 +102,7 @@ pub(crate) fn diag(
     put_diag(streams, out, to, shown(&bytes, store.value))
 }
 
-fn put_diag(streams: &mut Streams, out: &mut Out, to: usize, store: &[u8]) -> usize {
+fn put_diag(streams: &Streams, out: &mut Out, to: usize, store: &[u8]) -> usize {
     let diag = ExtendedDiagnostics {
         length: store.len(),
     };

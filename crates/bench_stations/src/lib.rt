@@ -9,7 +9,7 @@ use line_text::printing::Streams;
 use line_text::words::{Input, number_of};
 
 fn command(
-    streams: &mut Streams,
+    streams: &Streams,
     number: usize,
     input: &Input,
     at: usize,
@@ -23,13 +23,7 @@ fn command(
     }
 }
 
-pub fn answer(
-    streams: &mut Streams,
-    input: &Input,
-    at: usize,
-    out: &mut Out,
-    to: usize,
-) -> Answered {
+pub fn answer(streams: &Streams, input: &Input, at: usize, out: &mut Out, to: usize) -> Answered {
     let name = number_of(input, at, b"ring ready ");
     command(streams, name.number, input, name.next, out, to)
 }

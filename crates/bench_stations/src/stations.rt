@@ -82,7 +82,7 @@ fn put_answer(out: &mut Out, to: usize, answer: Answer) -> usize {
 }
 
 fn put_changed(
-    streams: &mut Streams,
+    streams: &Streams,
     out: &mut Out,
     to: usize,
     changed: Changed,
@@ -97,7 +97,7 @@ fn put_changed(
 }
 
 fn put_ops(
-    streams: &mut Streams,
+    streams: &Streams,
     input: &Input,
     from: usize,
     made: TokenRing,
@@ -124,7 +124,7 @@ fn put_ops(
 
 // The list made, and then the ops.
 fn put_made(
-    streams: &mut Streams,
+    streams: &Streams,
     input: &Input,
     at: usize,
     made: Changed,
@@ -144,7 +144,7 @@ fn put_made(
 }
 
 pub(crate) fn ring(
-    streams: &mut Streams,
+    streams: &Streams,
     input: &Input,
     at: usize,
     is_whole: bool,

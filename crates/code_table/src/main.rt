@@ -66,7 +66,7 @@ fn put_code(out: &mut Out, to: usize, code: FunctionCode, told: Told) -> Told {
 }
 
 // The line of a byte.
-fn put_byte(streams: &mut Streams, out: &mut Out, b: u8, told: Told) -> Told {
+fn put_byte(streams: &Streams, out: &mut Out, b: u8, told: Told) -> Told {
     let room = flushed(streams, out, told.to);
     let byte_at = put_text(out, room, b"byte=");
     let to = put_hex(out, byte_at, &[b]);
@@ -81,7 +81,7 @@ fn put_byte(streams: &mut Streams, out: &mut Out, b: u8, told: Told) -> Told {
     }
 }
 
-fn put_bytes(streams: &mut Streams, out: &mut Out) -> Told {
+fn put_bytes(streams: &Streams, out: &mut Out) -> Told {
     let mut told = Told {
         to: 0,
         requests: 0,
@@ -107,10 +107,10 @@ fn put_counts(out: &mut Out, told: Told) -> usize {
 }
 
 fn main(rt: HostRuntime) -> io::Result<()> {
-    let mut streams = Streams::new(rt.stdin(), rt.stdout(), rt.stderr());
+    let streams = Streams::new(rt.stdin(), rt.stdout(), rt.stderr());
     let mut out = [0u8; 65536];
-    let told = put_bytes(&mut streams, &mut out);
+    let told = put_bytes(&streams, &mut out);
     let to = put_counts(&mut out, told);
-    flush(&mut streams, &out, to);
+    flush(&streams, &out, to);
     streams.end()
 }

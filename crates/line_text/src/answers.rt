@@ -20,11 +20,11 @@ pub enum Answered {
     NotNamed,
 }
 
-pub fn flush(streams: &mut Streams, out: &Out, to: usize) {
+pub fn flush(streams: &Streams, out: &Out, to: usize) {
     print(streams, front(out, to));
 }
 
-pub fn flushed(streams: &mut Streams, out: &Out, to: usize) -> usize {
+pub fn flushed(streams: &Streams, out: &Out, to: usize) -> usize {
     if to < FULL {
         return to;
     }

@@ -8,19 +8,19 @@ use listing::{LISTING_ROOM, Listed};
 use std::io;
 
 // All that the lister prints for these bytes.
-fn show(streams: &mut Streams, input: &[u8]) {
+fn show(streams: &Streams, input: &[u8]) {
     let mut text = [0u8; LISTING_ROOM];
     let listed = listing::output(input, &mut text);
     print(streams, listed.text(&text));
 }
 
-fn print_number(streams: &mut Streams, name: &[u8], number: usize) {
+fn print_number(streams: &Streams, name: &[u8], number: usize) {
     print(streams, name);
     print_decimal(streams, number);
     print(streams, b"\n");
 }
 
-fn print_answer(streams: &mut Streams, listed: Listed) {
+fn print_answer(streams: &Streams, listed: Listed) {
     match listed {
         Listed::Text(len) => print_number(streams, b"text of ", len),
         Listed::Refused(refusal) => print_number(
@@ -32,20 +32,20 @@ fn print_answer(streams: &mut Streams, listed: Listed) {
 }
 
 // What `list` answers, and all that the buffer then holds.
-fn list_into(streams: &mut Streams, input: &[u8], buf: &mut [u8]) {
+fn list_into(streams: &Streams, input: &[u8], buf: &mut [u8]) {
     print_answer(streams, listing::list(input, buf));
     print(streams, buf);
     print(streams, b"\n");
 }
 
 // What `list` answers where there is always room.
-fn measure(streams: &mut Streams, input: &[u8]) {
+fn measure(streams: &Streams, input: &[u8]) {
     let mut text = [0u8; LISTING_ROOM];
     print_answer(streams, listing::list(input, &mut text));
 }
 
 // Two captures of one length.
-fn captures(streams: &mut Streams) {
+fn captures(streams: &Streams) {
     let mut both = [0u8; 65536];
     let len = read_full(streams, &mut both) / 2;
     let first = Part { start: 0, len };
@@ -54,14 +54,14 @@ fn captures(streams: &mut Streams) {
     show(streams, second.show(&both));
 }
 
-fn ends(streams: &mut Streams) {
+fn ends(streams: &Streams) {
     show(streams, b"");
     show(streams, b"\xE5\x00\xE5");
     show(streams, b"\xE5\x10\x05\x02\x49\x50");
     show(streams, b"\x68\x05\x05\x68\x05\x02\x5C\x01\x03\x66\x16");
 }
 
-fn kinds(streams: &mut Streams) {
+fn kinds(streams: &Streams) {
     show(streams, b"\xDC\xFF\x80\xE5");
     show(streams, b"\x68\x05\x05\x68\x05\x02\x5C\x01\x03\x67\x16");
     show(streams, b"\x68\x05\x05\x68\x85\x82\x6C\x3C\x3E\xED\x16");
@@ -72,13 +72,13 @@ fn kinds(streams: &mut Streams) {
     );
 }
 
-fn rooms(streams: &mut Streams) {
+fn rooms(streams: &Streams) {
     list_into(streams, b"\xE5", &mut [b'.'; 80]);
     list_into(streams, b"\xE5", &mut [b'.'; 77]);
     list_into(streams, b"\xE5", &mut [b'.'; 76]);
 }
 
-fn limits(streams: &mut Streams) {
+fn limits(streams: &Streams) {
     measure(streams, &[0xE5u8; 4096]);
     measure(streams, &[0xE5u8; 4097]);
     show(streams, &[0u8; 4096]);
@@ -86,11 +86,11 @@ fn limits(streams: &mut Streams) {
 }
 
 fn main(rt: HostRuntime) -> io::Result<()> {
-    let mut streams = Streams::new(rt.stdin(), rt.stdout(), rt.stderr());
-    captures(&mut streams);
-    ends(&mut streams);
-    kinds(&mut streams);
-    rooms(&mut streams);
-    limits(&mut streams);
+    let streams = Streams::new(rt.stdin(), rt.stdout(), rt.stderr());
+    captures(&streams);
+    ends(&streams);
+    kinds(&streams);
+    rooms(&streams);
+    limits(&streams);
     streams.end()
 }

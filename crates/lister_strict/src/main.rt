@@ -25,7 +25,7 @@ fn put_output(input: &[u8], buf: &mut [u8]) -> Listed
     listing::output_in(Mode::Strict, input, buf)
 }
 
-fn print(streams: &mut Streams, input: &[u8]) -> bool {
+fn print(streams: &Streams, input: &[u8]) -> bool {
     let mut text = [0u8; LISTING_ROOM];
     let listed = put_output(input, &mut text);
     printing::print(streams, listed.text(&text));
@@ -33,9 +33,9 @@ fn print(streams: &mut Streams, input: &[u8]) -> bool {
 }
 
 fn main(rt: HostRuntime) -> io::Result<()> {
-    let mut streams = Streams::new(rt.stdin(), rt.stdout(), rt.stderr());
+    let streams = Streams::new(rt.stdin(), rt.stdout(), rt.stderr());
     let mut input = [0u8; INPUT_ROOM];
-    let len = read_full(&mut streams, &mut input);
+    let len = read_full(&streams, &mut input);
     if !is_readable(&streams) {
         print_error(
             &streams,
@@ -43,7 +43,7 @@ fn main(rt: HostRuntime) -> io::Result<()> {
         );
         return streams.end();
     }
-    if !print(&mut streams, front(&input, len)) {
+    if !print(&streams, front(&input, len)) {
         print_error(
             &streams,
             b"lister_strict: standard output could not be written\n",

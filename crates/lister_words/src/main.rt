@@ -72,7 +72,7 @@ fn is_telegram(line: &[u8]) -> bool {
 
 // A line of the lister's text, and the telegram's words where it is of one.
 fn put_line(
-    streams: &mut Streams,
+    streams: &Streams,
     line: &[u8],
     input: &[u8],
     at: usize,
@@ -89,7 +89,7 @@ fn put_line(
 }
 
 // The text goes out line by line; each ends with a line feed.
-fn put_lines(streams: &mut Streams, lines: &[u8], input: &[u8], out: &mut Out) -> usize {
+fn put_lines(streams: &Streams, lines: &[u8], input: &[u8], out: &mut Out) -> usize {
     let mut told = Told { at: 0, to: 0 };
     let mut start = 0;
     while start < lines.len() {
@@ -103,7 +103,7 @@ fn put_lines(streams: &mut Streams, lines: &[u8], input: &[u8], out: &mut Out) -
     told.to
 }
 
-fn list(streams: &mut Streams, input: &[u8]) {
+fn list(streams: &Streams, input: &[u8]) {
     let mut room = [0u8; LISTING_ROOM];
     let listed = listing::output(input, &mut room);
     let mut out = [0u8; 65536];
@@ -112,9 +112,9 @@ fn list(streams: &mut Streams, input: &[u8]) {
 }
 
 fn main(rt: HostRuntime) -> io::Result<()> {
-    let mut streams = Streams::new(rt.stdin(), rt.stdout(), rt.stderr());
+    let streams = Streams::new(rt.stdin(), rt.stdout(), rt.stderr());
     let mut input = [0u8; INPUT_ROOM];
-    let len = read_full(&mut streams, &mut input);
+    let len = read_full(&streams, &mut input);
     if !is_readable(&streams) {
         print_error(
             &streams,
@@ -122,6 +122,6 @@ fn main(rt: HostRuntime) -> io::Result<()> {
         );
         return streams.end();
     }
-    list(&mut streams, front(&input, len));
+    list(&streams, front(&input, len));
     streams.end()
 }

@@ -24,9 +24,9 @@ fn put_segment(out: &mut [u8]) -> usize {
 }
 
 fn main(rt: HostRuntime) -> io::Result<()> {
-    let mut streams = Streams::new(rt.stdin(), rt.stdout(), rt.stderr());
+    let streams = Streams::new(rt.stdin(), rt.stdout(), rt.stderr());
     let mut capture = [0u8; 4096];
     let len = put_segment(&mut capture);
-    print(&mut streams, front(&capture, len));
+    print(&streams, front(&capture, len));
     streams.end()
 }

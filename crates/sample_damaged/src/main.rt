@@ -15,11 +15,11 @@ fn disturb(capture: &mut [u8], at: usize) {
 }
 
 fn main(rt: HostRuntime) -> io::Result<()> {
-    let mut streams = Streams::new(rt.stdin(), rt.stdout(), rt.stderr());
+    let streams = Streams::new(rt.stdin(), rt.stdout(), rt.stderr());
     let mut capture = [0u8; 4096];
-    let len = read_full(&mut streams, &mut capture);
+    let len = read_full(&streams, &mut capture);
     disturb(&mut capture, len / 2);
     let read = Part { start: 0, len };
-    print(&mut streams, read.show(&capture));
+    print(&streams, read.show(&capture));
     streams.end()
 }

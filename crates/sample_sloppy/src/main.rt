@@ -67,13 +67,13 @@ fn let_through(capture: &mut [u8], len: usize) {
 }
 
 fn main(rt: HostRuntime) -> io::Result<()> {
-    let mut streams = Streams::new(rt.stdin(), rt.stdout(), rt.stderr());
+    let streams = Streams::new(rt.stdin(), rt.stdout(), rt.stderr());
     let mut capture = [0u8; 4096];
-    let len = read_full(&mut streams, &mut capture);
+    let len = read_full(&streams, &mut capture);
     let_through(&mut capture, len);
     let read = Part { start: 0, len };
-    print(&mut streams, read.show(&capture));
-    print(&mut streams, b"\x10\x05\x02\x49\x50\x16");
-    print(&mut streams, b"\x68\x03\x03\x68\x02\x05\x00\x07\x16");
+    print(&streams, read.show(&capture));
+    print(&streams, b"\x10\x05\x02\x49\x50\x16");
+    print(&streams, b"\x68\x03\x03\x68\x02\x05\x00\x07\x16");
     streams.end()
 }

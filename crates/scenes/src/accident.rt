@@ -14,7 +14,7 @@ use stage::scenes::{
     close_scene, head_end_restarts, head_end_submits, open_scene, opening_passes, order_passes,
 };
 
-fn steps(streams: &mut Streams) -> Stage
+fn steps(streams: &Streams) -> Stage
     ensures { result ≡ played default_tries accident }
 {
     let mut stage = open_scene(
@@ -32,7 +32,6 @@ fn steps(streams: &mut Streams) -> Stage
     stage
 }
 
-pub(crate) fn play(streams: &mut Streams) {
-    let stage = steps(streams);
-    close_scene(streams, b"accident", stage);
+pub(crate) fn play(streams: &Streams) {
+    close_scene(streams, b"accident", steps(streams));
 }

@@ -13,7 +13,7 @@ use stage::scenes::{
     line_loses, open_scene_with_tries, opening_passes, order_passes,
 };
 
-fn steps(streams: &mut Streams) -> Stage
+fn steps(streams: &Streams) -> Stage
     ensures { result ≡ played 2 cabinet_restart }
 {
     let mut stage = open_scene_with_tries(
@@ -35,7 +35,6 @@ fn steps(streams: &mut Streams) -> Stage
     stage
 }
 
-pub(crate) fn play(streams: &mut Streams) {
-    let stage = steps(streams);
-    close_scene(streams, b"cabinet_restart", stage);
+pub(crate) fn play(streams: &Streams) {
+    close_scene(streams, b"cabinet_restart", steps(streams));
 }

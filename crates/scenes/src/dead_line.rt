@@ -12,7 +12,7 @@ use stage::scenes::{
     opening_passes,
 };
 
-fn steps(streams: &mut Streams) -> Stage
+fn steps(streams: &Streams) -> Stage
     ensures { result ≡ played 2 dead_line }
 {
     let mut stage = open_scene_with_tries(
@@ -35,7 +35,6 @@ fn steps(streams: &mut Streams) -> Stage
     stage
 }
 
-pub(crate) fn play(streams: &mut Streams) {
-    let stage = steps(streams);
-    close_scene(streams, b"dead_line", stage);
+pub(crate) fn play(streams: &Streams) {
+    close_scene(streams, b"dead_line", steps(streams));
 }

@@ -10,7 +10,7 @@ use line_text::printing::Streams;
 use stage::Stage;
 use stage::scenes::{close_scene, head_end_submits, open_scene, opening_passes, order_passes};
 
-fn steps(streams: &mut Streams) -> Stage
+fn steps(streams: &Streams) -> Stage
     ensures { result ≡ played default_tries five_orders }
 {
     let mut stage = open_scene(
@@ -32,7 +32,6 @@ fn steps(streams: &mut Streams) -> Stage
     stage
 }
 
-pub(crate) fn play(streams: &mut Streams) {
-    let stage = steps(streams);
-    close_scene(streams, b"five_orders", stage);
+pub(crate) fn play(streams: &Streams) {
+    close_scene(streams, b"five_orders", steps(streams));
 }

@@ -13,7 +13,7 @@ use stage::scenes::{
     head_end_submits, line_loses, open_scene, opening_passes,
 };
 
-fn steps(streams: &mut Streams) -> Stage
+fn steps(streams: &Streams) -> Stage
     ensures { result ≡ played default_tries lost_reply }
 {
     let mut stage = open_scene(
@@ -32,7 +32,6 @@ fn steps(streams: &mut Streams) -> Stage
     stage
 }
 
-pub(crate) fn play(streams: &mut Streams) {
-    let stage = steps(streams);
-    close_scene(streams, b"lost_reply", stage);
+pub(crate) fn play(streams: &Streams) {
+    close_scene(streams, b"lost_reply", steps(streams));
 }

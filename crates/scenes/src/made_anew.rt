@@ -14,7 +14,7 @@ use stage::scenes::{
     head_end_restarts, head_end_submits, open_scene, opening_passes, order_passes,
 };
 
-fn steps(streams: &mut Streams) -> Stage
+fn steps(streams: &Streams) -> Stage
     ensures { result ≡ played default_tries made_anew }
 {
     let mut stage = open_scene(
@@ -35,7 +35,6 @@ fn steps(streams: &mut Streams) -> Stage
     stage
 }
 
-pub(crate) fn play(streams: &mut Streams) {
-    let stage = steps(streams);
-    close_scene(streams, b"made_anew", stage);
+pub(crate) fn play(streams: &Streams) {
+    close_scene(streams, b"made_anew", steps(streams));
 }

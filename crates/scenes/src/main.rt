@@ -27,13 +27,13 @@ fn is_name(line: &[u8], name: &[u8]) -> bool {
     }
 }
 
-fn no_scene(streams: &mut Streams, name: &[u8]) {
+fn no_scene(streams: &Streams, name: &[u8]) {
     print(streams, b"error=no-scene name=");
     print(streams, name);
     print(streams, b"\n");
 }
 
-fn play(streams: &mut Streams, name: &[u8]) {
+fn play(streams: &Streams, name: &[u8]) {
     if is_name(name, b"accident") {
         return accident::play(streams);
     }
@@ -64,13 +64,13 @@ fn play(streams: &mut Streams, name: &[u8]) {
     no_scene(streams, name)
 }
 
-fn play_line(streams: &mut Streams, line: &[u8]) {
+fn play_line(streams: &Streams, line: &[u8]) {
     if 0 < line.len() {
         play(streams, line);
     }
 }
 
-fn run(streams: &mut Streams, names: &[u8]) {
+fn run(streams: &Streams, names: &[u8]) {
     let mut at = 0;
     while at < names.len() {
         let end = find(names, at, b'\n');
@@ -83,17 +83,17 @@ fn run(streams: &mut Streams, names: &[u8]) {
 }
 
 fn main(rt: HostRuntime) -> io::Result<()> {
-    let mut streams = Streams::new(rt.stdin(), rt.stdout(), rt.stderr());
+    let streams = Streams::new(rt.stdin(), rt.stdout(), rt.stderr());
     let mut names = [0u8; 1025];
-    let n = read_full(&mut streams, &mut names);
+    let n = read_full(&streams, &mut names);
     if NAMES < n {
-        print(&mut streams, b"error=more-than-1024-bytes\n");
+        print(&streams, b"error=more-than-1024-bytes\n");
         return streams.end();
     }
     if !is_readable(&streams) {
         print_error(&streams, b"scenes: standard input cannot be read\n");
         return streams.end();
     }
-    run(&mut streams, front(&names, n));
+    run(&streams, front(&names, n));
     streams.end()
 }

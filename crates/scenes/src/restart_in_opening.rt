@@ -15,7 +15,7 @@ use stage::scenes::{
     open_scene, opening_passes, order_passes,
 };
 
-fn steps(streams: &mut Streams) -> Stage
+fn steps(streams: &Streams) -> Stage
     ensures { result ≡ played default_tries restart_in_opening }
 {
     let mut stage = open_scene(
@@ -33,7 +33,6 @@ fn steps(streams: &mut Streams) -> Stage
     stage
 }
 
-pub(crate) fn play(streams: &mut Streams) {
-    let stage = steps(streams);
-    close_scene(streams, b"restart_in_opening", stage);
+pub(crate) fn play(streams: &Streams) {
+    close_scene(streams, b"restart_in_opening", steps(streams));
 }

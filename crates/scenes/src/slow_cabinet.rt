@@ -18,7 +18,7 @@ use stage::scenes::{
     head_end_submits, open_scene_with_tries, opening_passes,
 };
 
-fn steps(streams: &mut Streams) -> Stage
+fn steps(streams: &Streams) -> Stage
     ensures { result ≡ played 1 slow_cabinet }
 {
     let mut stage = open_scene_with_tries(
@@ -39,7 +39,6 @@ fn steps(streams: &mut Streams) -> Stage
     stage
 }
 
-pub(crate) fn play(streams: &mut Streams) {
-    let stage = steps(streams);
-    close_scene(streams, b"slow_cabinet", stage);
+pub(crate) fn play(streams: &Streams) {
+    close_scene(streams, b"slow_cabinet", steps(streams));
 }

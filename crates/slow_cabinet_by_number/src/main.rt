@@ -39,7 +39,7 @@ fn part_of(heard: &[u8], start: usize, len: usize) -> &[u8] {
     part.show(heard)
 }
 
-fn print_head_end(streams: &mut Streams, code: u8, told: [usize; 3], heard: &[u8], line: &[u8]) {
+fn print_head_end(streams: &Streams, code: u8, told: [usize; 3], heard: &[u8], line: &[u8]) {
     match code {
         102 => print_sent(streams, front(line, told[0])),
         103 => {
@@ -57,7 +57,7 @@ fn print_head_end(streams: &mut Streams, code: u8, told: [usize; 3], heard: &[u8
     }
 }
 
-fn print_cabinet(streams: &mut Streams, code: u8, told: [usize; 3], heard: &[u8], line: &[u8]) {
+fn print_cabinet(streams: &Streams, code: u8, told: [usize; 3], heard: &[u8], line: &[u8]) {
     match code {
         102 => print_sent(streams, front(line, told[0])),
         106 => {
@@ -128,7 +128,7 @@ fn with_cabinet(
     }
 }
 
-fn head_end_submits(streams: &mut Streams, plant: Plant, now: usize, order: &[u8]) -> Plant {
+fn head_end_submits(streams: &Streams, plant: Plant, now: usize, order: &[u8]) -> Plant {
     print_bytes(streams, b"\nwho=head-end call=submit order=", order);
     let mut state = plant.head_end;
     let mut last = plant.last;
@@ -141,7 +141,7 @@ fn head_end_submits(streams: &mut Streams, plant: Plant, now: usize, order: &[u8
     with_head_end(plant, state, last, line, told[0])
 }
 
-fn head_end_hears_nothing(streams: &mut Streams, plant: Plant, now: usize) -> Plant {
+fn head_end_hears_nothing(streams: &Streams, plant: Plant, now: usize) -> Plant {
     print(streams, b"\nwho=head-end call=silence\n");
     let mut state = plant.head_end;
     let mut last = plant.last;
@@ -152,7 +152,7 @@ fn head_end_hears_nothing(streams: &mut Streams, plant: Plant, now: usize) -> Pl
     with_head_end(plant, state, last, line, told[0])
 }
 
-fn head_end_hears(streams: &mut Streams, plant: Plant, now: usize) -> Plant {
+fn head_end_hears(streams: &Streams, plant: Plant, now: usize) -> Plant {
     print(streams, b"\nwho=head-end call=hear\n");
     let mut state = plant.head_end;
     let mut last = plant.last;
@@ -172,7 +172,7 @@ fn head_end_hears(streams: &mut Streams, plant: Plant, now: usize) -> Plant {
     with_head_end(plant, state, last, line, told[0])
 }
 
-fn cabinet_hears(streams: &mut Streams, plant: Plant, now: usize) -> Plant {
+fn cabinet_hears(streams: &Streams, plant: Plant, now: usize) -> Plant {
     print(streams, b"\nwho=cabinet call=hear\n");
     let mut state = plant.cabinet;
     let mut guard = plant.guard;
@@ -194,7 +194,7 @@ fn cabinet_hears(streams: &mut Streams, plant: Plant, now: usize) -> Plant {
 
 // The application answers the order of this number. A refused call leaves the line as it is.
 fn cabinet_answers(
-    streams: &mut Streams,
+    streams: &Streams,
     plant: Plant,
     now: usize,
     number: usize,
@@ -214,24 +214,24 @@ fn cabinet_answers(
 }
 
 fn main(rt: HostRuntime) -> io::Result<()> {
-    let mut streams = Streams::new(rt.stdin(), rt.stdout(), rt.stderr());
+    let streams = Streams::new(rt.stdin(), rt.stdout(), rt.stderr());
     print(
-        &mut streams,
+        &streams,
         b"scene=slow_cabinet_by_number tries=1\nabout=the application answers the first order when the second is handed up, by its number: refused, and the second is confirmed with its own reply\n",
     );
     let mut plant = made();
-    plant = head_end_submits(&mut streams, plant, 1, b"open-17");
-    plant = cabinet_hears(&mut streams, plant, 2);
-    plant = head_end_hears(&mut streams, plant, 3);
-    plant = cabinet_hears(&mut streams, plant, 4);
-    plant = head_end_hears_nothing(&mut streams, plant, 5);
-    plant = head_end_submits(&mut streams, plant, 6, b"close-18");
-    plant = cabinet_hears(&mut streams, plant, 7);
-    plant = head_end_hears(&mut streams, plant, 8);
-    plant = cabinet_hears(&mut streams, plant, 9);
-    plant = cabinet_answers(&mut streams, plant, 10, 1, b"opened-17");
-    plant = cabinet_answers(&mut streams, plant, 11, 2, b"closed-18");
-    head_end_hears(&mut streams, plant, 12);
-    print(&mut streams, b"\nscene=slow_cabinet_by_number\n");
+    plant = head_end_submits(&streams, plant, 1, b"open-17");
+    plant = cabinet_hears(&streams, plant, 2);
+    plant = head_end_hears(&streams, plant, 3);
+    plant = cabinet_hears(&streams, plant, 4);
+    plant = head_end_hears_nothing(&streams, plant, 5);
+    plant = head_end_submits(&streams, plant, 6, b"close-18");
+    plant = cabinet_hears(&streams, plant, 7);
+    plant = head_end_hears(&streams, plant, 8);
+    plant = cabinet_hears(&streams, plant, 9);
+    plant = cabinet_answers(&streams, plant, 10, 1, b"opened-17");
+    plant = cabinet_answers(&streams, plant, 11, 2, b"closed-18");
+    head_end_hears(&streams, plant, 12);
+    print(&streams, b"\nscene=slow_cabinet_by_number\n");
     streams.end()
 }

@@ -9,7 +9,7 @@ use crate::telling::{
 };
 use line_text::printing::Streams;
 
-fn print_heading(streams: &mut Streams, name: &[u8], about: &[u8], stage: Stage) {
+fn print_heading(streams: &Streams, name: &[u8], about: &[u8], stage: Stage) {
     let initiator = stage.initiator;
     print(streams, b"scene=");
     print(streams, name);
@@ -20,7 +20,7 @@ fn print_heading(streams: &mut Streams, name: &[u8], about: &[u8], stage: Stage)
 }
 
 // A scene's heading, and its stage.
-pub fn open_scene(streams: &mut Streams, name: &[u8], about: &[u8]) -> Stage
+pub fn open_scene(streams: &Streams, name: &[u8], about: &[u8]) -> Stage
     ensures { result ≡ fresh }
 {
     let stage = Stage::new();
@@ -29,7 +29,7 @@ pub fn open_scene(streams: &mut Streams, name: &[u8], about: &[u8]) -> Stage
 }
 
 // The same with another number of tries.
-pub fn open_scene_with_tries(streams: &mut Streams, name: &[u8], about: &[u8], tries: u8) -> Stage
+pub fn open_scene_with_tries(streams: &Streams, name: &[u8], about: &[u8], tries: u8) -> Stage
     ensures { result ≡ fresh_with tries }
 {
     let stage = Stage::with_tries(tries);
@@ -38,7 +38,7 @@ pub fn open_scene_with_tries(streams: &mut Streams, name: &[u8], about: &[u8], t
 }
 
 // How the scene ended. It prints, and there is nothing else to promise.
-pub fn close_scene(streams: &mut Streams, name: &[u8], stage: Stage)
+pub fn close_scene(streams: &Streams, name: &[u8], stage: Stage)
     ensures { Unit {0} }
 {
     let tally = stage.tally;
@@ -52,7 +52,7 @@ pub fn close_scene(streams: &mut Streams, name: &[u8], stage: Stage)
     print(streams, b"\n");
 }
 
-pub fn head_end_submits(streams: &mut Streams, stage: Stage, order: &[u8]) -> Stage
+pub fn head_end_submits(streams: &Streams, stage: Stage, order: &[u8]) -> Stage
     ensures { result ≡ (submit_step stage order.now).stage }
 {
     print_bytes(streams, b"\nwho=head-end call=submit order=", order);
@@ -64,7 +64,7 @@ pub fn head_end_submits(streams: &mut Streams, stage: Stage, order: &[u8]) -> St
 }
 
 // Silence is reported.
-pub fn head_end_hears_nothing(streams: &mut Streams, stage: Stage) -> Stage
+pub fn head_end_hears_nothing(streams: &Streams, stage: Stage) -> Stage
     ensures { result ≡ (silence_step stage).stage }
 {
     print(streams, b"\nwho=head-end call=silence\n");
@@ -75,7 +75,7 @@ pub fn head_end_hears_nothing(streams: &mut Streams, stage: Stage) -> Stage
     after
 }
 
-pub fn head_end_hears(streams: &mut Streams, stage: Stage) -> Stage
+pub fn head_end_hears(streams: &Streams, stage: Stage) -> Stage
     ensures { result ≡ (initiator_hear_step stage).stage }
 {
     print(streams, b"\nwho=head-end call=hear\n");
@@ -87,7 +87,7 @@ pub fn head_end_hears(streams: &mut Streams, stage: Stage) -> Stage
 }
 
 // The head end restarts with its record at hand, and says what became of a pending order.
-pub fn head_end_calls_restart(streams: &mut Streams, stage: Stage) -> Stage
+pub fn head_end_calls_restart(streams: &Streams, stage: Stage) -> Stage
     ensures { result ≡ (restart_step stage).stage }
 {
     print(streams, b"\nwho=head-end call=restart\n");
@@ -99,7 +99,7 @@ pub fn head_end_calls_restart(streams: &mut Streams, stage: Stage) -> Stage
 }
 
 // The head end goes on with a record made anew.
-pub fn head_end_restarts(streams: &mut Streams, stage: Stage) -> Stage
+pub fn head_end_restarts(streams: &Streams, stage: Stage) -> Stage
     ensures { result ≡ anew_of stage }
 {
     print(
@@ -109,7 +109,7 @@ pub fn head_end_restarts(streams: &mut Streams, stage: Stage) -> Stage
     stage.make_initiator_anew()
 }
 
-pub fn cabinet_hears(streams: &mut Streams, stage: Stage) -> Stage
+pub fn cabinet_hears(streams: &Streams, stage: Stage) -> Stage
     ensures { result ≡ (responder_hear_step stage).stage }
 {
     print(streams, b"\nwho=cabinet call=hear\n");
@@ -121,7 +121,7 @@ pub fn cabinet_hears(streams: &mut Streams, stage: Stage) -> Stage
 }
 
 // The cabinet's application answers the order that was handed up.
-pub fn cabinet_answers(streams: &mut Streams, stage: Stage, reply: &[u8]) -> Stage
+pub fn cabinet_answers(streams: &Streams, stage: Stage, reply: &[u8]) -> Stage
     ensures { result ≡ (answer_step stage reply.now).stage }
 {
     print_bytes(streams, b"\nwho=cabinet call=answer reply=", reply);
@@ -132,7 +132,7 @@ pub fn cabinet_answers(streams: &mut Streams, stage: Stage, reply: &[u8]) -> Sta
     after
 }
 
-pub fn cabinet_restarts(streams: &mut Streams, stage: Stage) -> Stage
+pub fn cabinet_restarts(streams: &Streams, stage: Stage) -> Stage
     ensures { result ≡ restarted_of stage }
 {
     print(
@@ -143,7 +143,7 @@ pub fn cabinet_restarts(streams: &mut Streams, stage: Stage) -> Stage
 }
 
 // The cabinet goes on with a record made anew.
-pub fn cabinet_made_anew(streams: &mut Streams, stage: Stage) -> Stage
+pub fn cabinet_made_anew(streams: &Streams, stage: Stage) -> Stage
     ensures { result ≡ responder_anew_of stage }
 {
     print(streams, b"\nwho=cabinet call=new\nanswer=made-anew\n");
@@ -151,7 +151,7 @@ pub fn cabinet_made_anew(streams: &mut Streams, stage: Stage) -> Stage
 }
 
 // The telegram on the line is lost.
-pub fn line_loses(streams: &mut Streams, stage: Stage) -> Stage
+pub fn line_loses(streams: &Streams, stage: Stage) -> Stage
     ensures { result ≡ lost_of stage }
 {
     print(streams, b"\nwho=line lost=telegram\n");
@@ -159,18 +159,16 @@ pub fn line_loses(streams: &mut Streams, stage: Stage) -> Stage
 }
 
 // The opening on the line passes, and so does its reply.
-pub fn opening_passes(streams: &mut Streams, stage: Stage) -> Stage
+pub fn opening_passes(streams: &Streams, stage: Stage) -> Stage
     ensures { result ≡ opening_passed stage }
 {
-    let heard = cabinet_hears(streams, stage);
-    head_end_hears(streams, heard)
+    head_end_hears(streams, cabinet_hears(streams, stage))
 }
 
 // The order on the line passes, the application answers it, and the reply passes.
-pub fn order_passes(streams: &mut Streams, stage: Stage, reply: &[u8]) -> Stage
+pub fn order_passes(streams: &Streams, stage: Stage, reply: &[u8]) -> Stage
     ensures { result ≡ order_passed stage reply.now }
 {
     let heard = cabinet_hears(streams, stage);
-    let answered = cabinet_answers(streams, heard, reply);
-    head_end_hears(streams, answered)
+    head_end_hears(streams, cabinet_answers(streams, heard, reply))
 }

@@ -10,7 +10,7 @@ use responder::ResponderAnswer;
 use text::put_hex;
 
 // In hexadecimal. No telegram of the link has more than 255 bytes; a longer order or reply, which the calls refuse, is not spelt out.
-fn print_hex(streams: &mut Streams, bytes: &[u8]) {
+fn print_hex(streams: &Streams, bytes: &[u8]) {
     if bytes.len() == 0 {
         print(streams, b"-");
         return;
@@ -42,7 +42,7 @@ fn put_signs(out: &mut [u8], bytes: &[u8]) -> usize {
     to
 }
 
-fn print_text(streams: &mut Streams, bytes: &[u8]) {
+fn print_text(streams: &Streams, bytes: &[u8]) {
     if bytes.len() == 0 {
         print(streams, b"-");
         return;
@@ -57,7 +57,7 @@ fn print_text(streams: &mut Streams, bytes: &[u8]) {
 }
 
 // An order or a reply behind its key, as bytes and as text.
-pub fn print_bytes(streams: &mut Streams, key: &[u8], bytes: &[u8]) {
+pub fn print_bytes(streams: &Streams, key: &[u8], bytes: &[u8]) {
     print(streams, key);
     print_hex(streams, bytes);
     print(streams, b" text=");
@@ -66,7 +66,7 @@ pub fn print_bytes(streams: &mut Streams, key: &[u8], bytes: &[u8]) {
 }
 
 // Of a listing the line between `bytes` and `end`: that of its first telegram.
-fn print_second_line(streams: &mut Streams, listing: &[u8]) {
+fn print_second_line(streams: &Streams, listing: &[u8]) {
     let first = find(listing, 0, b'\n');
     if listing.len() <= first {
         return;
@@ -78,14 +78,14 @@ fn print_second_line(streams: &mut Streams, listing: &[u8]) {
 }
 
 // A telegram as the lister names it.
-fn print_listed(streams: &mut Streams, telegram: &[u8]) {
+fn print_listed(streams: &Streams, telegram: &[u8]) {
     // The three lines of one telegram, of which none is longer than 80 bytes.
     let mut text = [0u8; 240];
     let listed = listing::list(telegram, &mut text);
     print_second_line(streams, listed.text(&text));
 }
 
-pub fn print_sent(streams: &mut Streams, telegram: &[u8]) {
+pub fn print_sent(streams: &Streams, telegram: &[u8]) {
     print(streams, b"answer=sent telegram=");
     print_hex(streams, telegram);
     print(streams, b"\n");
@@ -93,32 +93,32 @@ pub fn print_sent(streams: &mut Streams, telegram: &[u8]) {
 }
 
 // The telegram that a call wrote.
-fn print_written(streams: &mut Streams, after: Stage) {
+fn print_written(streams: &Streams, after: Stage) {
     let line = after.line;
     print_sent(streams, front(&line, after.len));
 }
 
 // A part of the telegram that a call heard, behind its key.
-fn print_heard(streams: &mut Streams, key: &[u8], part: Part, before: Stage) {
+fn print_heard(streams: &Streams, key: &[u8], part: Part, before: Stage) {
     let line = before.line;
     let heard = front(&line, before.len);
     print_bytes(streams, key, part.show(heard));
 }
 
-fn print_refused(streams: &mut Streams, refusal: Refusal) {
+fn print_refused(streams: &Streams, refusal: Refusal) {
     print_number(streams, b"answer=refused-", refusal.number());
     print(streams, b"\n");
 }
 
 // An outcome that shows no reply, with its tries.
-fn print_outcome(streams: &mut Streams, key: &[u8], tries: u8) {
+fn print_outcome(streams: &Streams, key: &[u8], tries: u8) {
     print_number(streams, key, tries);
     print(streams, b"\n");
 }
 
 // The head end's answer, between the stage before the call and the one after it.
 pub(crate) fn print_initiator_answer(
-    streams: &mut Streams,
+    streams: &Streams,
     answer: InitiatorAnswer,
     before: Stage,
     after: Stage,
@@ -138,7 +138,7 @@ pub(crate) fn print_initiator_answer(
 
 // The cabinet's answer.
 pub(crate) fn print_responder_answer(
-    streams: &mut Streams,
+    streams: &Streams,
     answer: ResponderAnswer,
     before: Stage,
     after: Stage,

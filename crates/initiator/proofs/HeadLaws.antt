@@ -23,8 +23,6 @@ use Rattle.link_rules.specs.Rules.{longest, room}
 use Rattle.link_telegrams.proofs.TurnLaws.{short_of_lent, with_lent_lem}
 use Rattle.link_telegrams.specs.Headers.{order_header}
 use Rattle.link_telegrams.specs.Turns.{Turn, refusing, wrote, writes_of, with_lent}
-use Rattle.link_telegrams.specs.declared.headers.Bit.{Bit}
-use Rattle.telegram.specs.declared.header.DataTelegramHeader.{DataTelegramHeader}
 use Rattle.telegram_tx.specs.Writing.{shown_writing}
 use Rattle.telegram_tx.specs.declared.tx.TelegramTxResult.{TelegramTxResult}
 use Rattle.telegram_tx.specs.declared.tx.TelegramTxResult.TheVariants as tx

@@ -1,0 +1,16 @@
+-- `Initiator::hear` meets its contract: the call on its head, with its order lent.
+use borrow.Author.Rules.{rules}
+use mathlib.Core.Path.{◌≡◌, ◌∙◌}
+use native.Mathlib.Omega.{arith}
+use lib.ListN.{length}
+use Rattle.initiator.proofs.HeadLaws.{hear_lent}
+use Rattle.initiator.specs.Leaves.{head_part}
+use Rattle.initiator.proofs.state.Initiator.hear.Goals as goal
+
+pub returns : goal.returns
+returns c =
+    let a = c.args in
+    let full : length a.self.order ≡ 246 = search rules in
+    c.whole_turn.ensures _
+    ∙ rw c.head_of-head.ensures at c.hear-turn.ensures
+    ∙ hear_lent (head_part a.self) a.self.order a.heard.now a.buf.now (omega (arith, full))

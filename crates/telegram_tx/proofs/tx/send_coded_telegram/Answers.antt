@@ -1,0 +1,12 @@
+-- `send_coded_telegram` meets its contract: a byte that is no function code is 4; any other is written as the code that it is read as.
+use mathlib.Core.Path.{refl, sym, ◌∙◌}
+use Rattle.codes.specs.FunctionCodes.{function_code_of}
+use Rattle.telegram_tx.proofs.CodedLaws.{by_byte}
+use Rattle.telegram_tx.proofs.tx.send_coded_telegram.Goals as goal
+
+pub returns : goal.returns
+returns c =
+    let a = c.args in
+    by_byte a.header a.pdu.now a.buf.now c.send_coded.result _ _ (function_code_of a.header.code) refl c.kept.ensures.1
+    (sym c.in-Is.is ∙ c.reply_to_byte.ensures)
+    (rw (c.kept.ensures.0, c.reply_from-expects_reply.ensures) at c.send_coded.ensures)

@@ -2,5 +2,5 @@
 use Rattle.std.proofs.Common.{◌-◌}
 use Rattle.bench_stations.proofs.ops.ops_end.Given as goal
 
-abbrev pub decreases-loop-at : goal.decreases-loop-at
-decreases-loop-at l = 18446744073709551616 - l.at
+abbrev pub decreases-loop-word : goal.decreases-loop-word
+decreases-loop-word l = 18446744073709551616 - l.at

@@ -2,5 +2,5 @@
 use Rattle.std.proofs.Common.{◌-◌}
 use Rattle.bench_stations.proofs.stations.put_ops.Given as goal
 
-abbrev pub decreases-loop-at : goal.decreases-loop-at
-decreases-loop-at l = 18446744073709551616 - l.at
+abbrev pub decreases-loop-ring : goal.decreases-loop-ring
+decreases-loop-ring l = 18446744073709551616 - l.at

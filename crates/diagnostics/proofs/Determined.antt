@@ -8,6 +8,7 @@ use Rattle.diagnostics.proofs.store.ExtendedDiagnostics.from_buffer.Reads as fro
 use Rattle.diagnostics.specs.contracts.store.ExtendedDiagnostics.is_available as is_available
 use Rattle.diagnostics.proofs.store.ExtendedDiagnostics.is_available.Reads as is_available_reads
 use Rattle.diagnostics.specs.contracts.store.ExtendedDiagnostics.iter_diag_blocks as iter_diag_blocks
+use Rattle.diagnostics.proofs.store.ExtendedDiagnostics.iter_diag_blocks.Reads as iter_diag_blocks_reads
 use Rattle.diagnostics.specs.contracts.store.ExtendedDiagnostics.raw_diag_buffer as raw_diag_buffer
 use Rattle.diagnostics.proofs.store.ExtendedDiagnostics.raw_diag_buffer.Reads as raw_diag_buffer_reads
 use Rattle.diagnostics.specs.contracts.store.ExtendedDiagnostics.take_buffer as take_buffer
@@ -20,7 +21,7 @@ use Rattle.ground.specs.Determined.{Determined, ShownDetermined}
 pub record Calls : Type 0 where
   pub from_buffer : Determined from_buffer.ended from_buffer_reads.Learnt
   pub take_buffer : Determined take_buffer.ended take_buffer_reads.Learnt
-  pub iter_diag_blocks : Determined iter_diag_blocks.ended iter_diag_blocks.Reads.Learnt
+  pub iter_diag_blocks : Determined iter_diag_blocks.ended iter_diag_blocks_reads.Learnt
   pub is_available : Determined is_available.ended is_available_reads.Learnt
   pub raw_diag_buffer : ShownDetermined raw_diag_buffer.ended (λ κs. (λ x. x.now)) raw_diag_buffer_reads.Learnt
   pub fill : Determined fill.ended fill_reads.Learnt

@@ -94,6 +94,7 @@ fn refused(refusal: Refusal, end: usize) -> Step
 
 // The step at the header of a block that says its length. The kind comes as a literal, so that each arm of `step_at`
 // becomes its own straight code.
+#[tactic(auto, using(crate::proofs::Headers::sized_zero, crate::proofs::Headers::sized_cut, crate::proofs::Headers::sized_whole))]
 fn sized_step(raw: &[u8], cursor: usize, header: u8, kind: u8) -> Step
     requires { (cursor < length raw.now) × (header / 64 ≡ kind) × (kind < 2) }
     ensures { shown_step result ≡ headed_by raw.now cursor header }
@@ -114,6 +115,7 @@ fn sized_step(raw: &[u8], cursor: usize, header: u8, kind: u8) -> Step
 }
 
 // The block with a body that a header begins.
+#[tactic(auto, using(crate::proofs::Headers::block_identifier, crate::proofs::Headers::block_device))]
 fn sized_block(cursor: usize, header: u8, kind: u8) -> ExtDiagBlock
     requires { (cursor + 1 < 2 ^ 64) × (header / 64 ≡ kind) × (kind < 2) × (1 ≤ header % 64) }
     ensures { (s : List ℕ) → shown_block result ≡ block_at s cursor header }

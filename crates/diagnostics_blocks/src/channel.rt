@@ -17,6 +17,7 @@ pub enum ChannelDataType {
 
 impl ChannelDataType {
     // The type that the third byte of a channel block names.
+    #[tactic(auto, unfolding(crate::specs::Channel::type_of))]
     pub fn from_diag_byte2(b: u8) -> Self
         ensures { shown_type result ≡ type_of (b / 32) }
     {
@@ -66,6 +67,7 @@ pub enum ChannelError {
 
 impl ChannelError {
     // The error that the third byte of a channel block names.
+    #[tactic(auto, unfolding(crate::specs::Channel::error_of))]
     pub fn from_diag_byte2(b: u8) -> Self
         ensures { shown_error result ≡ error_of (b % 32) }
     {

@@ -64,8 +64,7 @@ fn tell(found: Found, told: &mut [usize; 9]) -> u8
     }
 }
 
-#[unsafe(no_mangle)]
-pub extern "C" fn koy_diagnostics_step(
+pub fn koy_diagnostics_step(
     store: &[u8],
     walked: usize,
     cursor: &mut [usize; 1],
@@ -82,12 +81,7 @@ pub extern "C" fn koy_diagnostics_step(
     tell(found, told)
 }
 
-#[unsafe(no_mangle)]
-pub extern "C" fn koy_diagnostics_fill(
-    store: &mut [u8],
-    walked: &mut [usize; 1],
-    bytes: &[u8],
-) -> bool
+pub fn koy_diagnostics_fill(store: &mut [u8], walked: &mut [usize; 1], bytes: &[u8]) -> bool
     ensures { record { answer = result; walked = walked.new; store = store.new } ≡ koy_diagnostics_fill store.old walked.old bytes.now }
 {
     let diag = ExtendedDiagnostics { length: walked[0] };
@@ -97,8 +91,7 @@ pub extern "C" fn koy_diagnostics_fill(
     filled.filled
 }
 
-#[unsafe(no_mangle)]
-pub extern "C" fn koy_diagnostics_module(body: &[u8], module: usize) -> bool
+pub fn koy_diagnostics_module(body: &[u8], module: usize) -> bool
     ensures { result ≡ koy_diagnostics_module body.now «module» }
 {
     modules::is_set(body, module)

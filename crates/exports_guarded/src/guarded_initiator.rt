@@ -9,8 +9,7 @@ use exports_link::initiator_end::{
 use guards::stamp_after;
 
 // Refusals 18 and 19, in this order.
-#[unsafe(no_mangle)]
-pub extern "C" fn koy_guarded_initiator_new(
+pub fn koy_guarded_initiator_new(
     state: &mut [u8; 252],
     last: &mut [usize; 1],
     own: u8,
@@ -28,8 +27,7 @@ pub extern "C" fn koy_guarded_initiator_new(
     code
 }
 
-#[unsafe(no_mangle)]
-pub extern "C" fn koy_guarded_initiator_submit(
+pub fn koy_guarded_initiator_submit(
     state: &mut [u8; 252],
     last: &mut [usize; 1],
     moment: usize,
@@ -44,8 +42,7 @@ pub extern "C" fn koy_guarded_initiator_submit(
     submitted
 }
 
-#[unsafe(no_mangle)]
-pub extern "C" fn koy_guarded_initiator_silence(
+pub fn koy_guarded_initiator_silence(
     state: &mut [u8; 252],
     last: &mut [usize; 1],
     moment: usize,
@@ -59,8 +56,7 @@ pub extern "C" fn koy_guarded_initiator_silence(
     reported
 }
 
-#[unsafe(no_mangle)]
-pub extern "C" fn koy_guarded_initiator_hear(
+pub fn koy_guarded_initiator_hear(
     state: &mut [u8; 252],
     last: &mut [usize; 1],
     received: usize,

@@ -29,8 +29,7 @@ fn keep(
 }
 
 // The numbers of its orders begin after the stamp. Refusal 18.
-#[unsafe(no_mangle)]
-pub extern "C" fn koy_guarded_responder_new(
+pub fn koy_guarded_responder_new(
     state: &mut [u8; 250],
     guard: &mut [usize; 2],
     own: u8,
@@ -47,8 +46,7 @@ pub extern "C" fn koy_guarded_responder_new(
     code
 }
 
-#[unsafe(no_mangle)]
-pub extern "C" fn koy_guarded_responder_hear(
+pub fn koy_guarded_responder_hear(
     state: &mut [u8; 250],
     guard: &mut [usize; 2],
     received: usize,
@@ -68,8 +66,7 @@ pub extern "C" fn koy_guarded_responder_hear(
     keep(code, two, moment, guard, told)
 }
 
-#[unsafe(no_mangle)]
-pub extern "C" fn koy_guarded_responder_answer(
+pub fn koy_guarded_responder_answer(
     state: &mut [u8; 250],
     guard: &mut [usize; 2],
     number: usize,

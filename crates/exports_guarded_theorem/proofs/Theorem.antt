@@ -6,12 +6,12 @@ use mathlib.Core.List.{List, [], ◌∷◌}
 use mathlib.Core.Option.{Option, none, some, map}
 use mathlib.Core.Path.{◌≡◌, refl, sym, ap, ◌∙◌, subst, subst⁻¹}
 use native.Mathlib.Omega.{arith}
-use lib.Dec.{eqb, leb, ltb}
+use lib.Dec.{eqb, leb}
 use lib.ListN.{take}
 use borrow.Author.Tests.{eqb-true, eq-eqb, lt-leb, lt-ltb}
 use Rattle.demand_3.proofs.ByNumber as numbers
 use Rattle.demand_3.proofs.ByNumber.{Keeps}
-use Rattle.demand_3.proofs.Follows.{Written, Same, Follows, seen_turn}
+use Rattle.demand_3.proofs.Follows.{Written, Same, Follows}
 use Rattle.demand_3.proofs.Owing.{Owing, owing_same}
 use Rattle.demand_3.proofs.Transfer.{demand_same}
 use Rattle.demand_3.specs.Demand.{Demand}
@@ -20,8 +20,7 @@ use Rattle.demand_3.specs.Numbers.{AnswersByNumber}
 use Rattle.demand_3.specs.Line.{Pair}
 use Rattle.demand_3.specs.Turns as demand
 use Rattle.demand_3.specs.Turns.{Told, refused, nothing, tells, Turn, refusing}
-use Rattle.exports_guarded.specs.Calls.{GuardedCall}
-use Rattle.guards.specs.Guards.{handed_of, is_stale, next_of, number_after, number_told, stamp_after}
+use Rattle.guards.specs.Guards.{handed_of, next_of, number_after, number_told}
 use Rattle.exports_guarded.specs.InitiatorCalls.{stamped}
 use Rattle.exports_guarded.specs.ResponderCalls.{numbered}
 use Rattle.exports_link.specs.Calls.{Call, is_refusal, unless_refused, new_call, crossed}
@@ -32,7 +31,7 @@ use Rattle.exports_link.specs.ResponderCalls.{responder_crosses, koy_responder_h
 use Rattle.exports_link.proofs.InitiatorLossless.{SmallOrder, submit_small, silence_small, hear_small, restart_small, made_small}
 use Rattle.exports_link.proofs.ResponderLossless.{SizedRow, hear_kept, answer_kept, blank_sized}
 use Rattle.exports_link_theorem.proofs.Crossings.{refusal_unsent, refusal_unhanded, refusal_some, initiator_crossed, responder_crossed}
-use Rattle.exports_link_theorem.proofs.Fair.{FairlySaid, Fair, OutcomeWithin, submit_fair, silence_fair, initiator_hear_fair, restart_fair, responder_hear_fair, answer_fair}
+use Rattle.exports_link_theorem.proofs.Fair.{FairlySaid, submit_fair, silence_fair, initiator_hear_fair, restart_fair, responder_hear_fair, answer_fair}
 use Rattle.exports_link_theorem.proofs.Theorem as plain
 use Rattle.exports_link_theorem.specs.ExportedLink.{Found, number, wrote_of, heard_part, done_of, outcome_of, order_of, turn_of}
 use Rattle.exports_guarded_theorem.specs.GuardedLink.{Lent, GuardedInitiator, GuardedResponder, guard_of, stamp_of, received_at, unguarded, initiator_turn, responder_turn, hears, answers_with, guarded_link, link_by_number}
@@ -40,7 +39,7 @@ use Rattle.ground.specs.Pick.{if}
 use Rattle.ground.specs.declared.part.Part.{Part}
 use Rattle.initiator.specs.Calls as initiator
 use Rattle.initiator.specs.declared.state.Initiator as initiatorRecord
-use Rattle.link_rules.specs.Rules.{Linked, turned}
+use Rattle.link_rules.specs.Rules.{Linked}
 use Rattle.link_rules.specs.declared.link.Link.{Link}
 use Rattle.link_telegrams.proofs.HeardLaws.{Within}
 use Rattle.link_telegrams.specs.Turns as call

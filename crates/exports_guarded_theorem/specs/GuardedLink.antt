@@ -1,7 +1,7 @@
 -- The order link as a driver calls it with a guard: the pair of ends that the promises of `koy_guarded_initiator_…` and
 -- `koy_guarded_responder_…` make, on the bytes of their records and on their guards. Demand 3 is stated of it, and that an answer names what it
 -- answers. Read `guarded_link`, `link_by_number`, then what they are made of.
-use Rattle.std.specs.Prelude.{ℕ, suc, ◌+◌, List, [], ◌∷◌, ◌≡◌, false, leb, length, get_or}
+use Rattle.std.specs.Prelude.{ℕ, suc, ◌+◌, List, [], ◌∷◌, ◌≡◌, false, leb, length}
 use Rattle.demand_3.specs.Line.{Pair}
 use Rattle.demand_3.specs.Numbers.{Numbering}
 use Rattle.demand_3.specs.Turns.{Told, Turn}

@@ -14,7 +14,6 @@ use Rattle.initiator.specs.Calls.{Outcome}
 use Rattle.initiator.specs.Heads.{whole_of, shown_on, submit_on, silence_on, hear_on}
 use Rattle.initiator.specs.declared.head.InitiatorHead.{InitiatorHead}
 use Rattle.initiator.specs.declared.head.InitiatorHeadTurn.{InitiatorHeadTurn}
-use Rattle.initiator.specs.declared.state.Initiator.{Initiator}
 use Rattle.initiator.proofs.CallLaws.{submit_stays}
 use Rattle.initiator.proofs.HeadLaws.{submit_lent, silence_lent, hear_lent}
 use Rattle.link_rules.specs.Rules.{longest}

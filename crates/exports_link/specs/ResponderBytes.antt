@@ -5,7 +5,6 @@ use Rattle.exports_link.specs.Bytes.{length_byte}
 use Rattle.link_rules.specs.Rules.{link_of}
 use Rattle.link_numbers.specs.Numbers.{state_number, state_of}
 use Rattle.responder_row.specs.Rows.{held_of}
-use Rattle.responder_row.specs.declared.row.Row.{Row}
 use Rattle.responder.specs.declared.state.Responder.{Responder}
 
 -- the record of these bytes, whatever they are

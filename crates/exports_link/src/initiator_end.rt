@@ -122,8 +122,7 @@ fn made(own: u8, peer: u8, tries: u8, state: &mut [u8]) -> u8
 }
 
 // Refusals 18 and 19, in this order.
-#[unsafe(no_mangle)]
-pub extern "C" fn koy_initiator_new(state: &mut [u8; 252], own: u8, peer: u8, tries: u8) -> u8
+pub fn koy_initiator_new(state: &mut [u8; 252], own: u8, peer: u8, tries: u8) -> u8
     ensures { record { code = result; state = state.new } ≡ koy_initiator_new state.old own peer tries }
 {
     made(own, peer, tries, state)
@@ -167,8 +166,7 @@ fn hear(
     finish(turn, state, told)
 }
 
-#[unsafe(no_mangle)]
-pub extern "C" fn koy_initiator_submit(
+pub fn koy_initiator_submit(
     state: &mut [u8; 252],
     order: &[u8],
     buf: &mut [u8],
@@ -180,20 +178,14 @@ pub extern "C" fn koy_initiator_submit(
     submit(head, state, order, buf, told)
 }
 
-#[unsafe(no_mangle)]
-pub extern "C" fn koy_initiator_silence(
-    state: &mut [u8; 252],
-    buf: &mut [u8],
-    told: &mut [usize; 3],
-) -> u8
+pub fn koy_initiator_silence(state: &mut [u8; 252], buf: &mut [u8], told: &mut [usize; 3]) -> u8
     ensures { record { code = result; told = told.new; state = state.new; buffer = buf.new } ≡ koy_initiator_silence state.old buf.old told.old }
 {
     let head = head_of(state);
     silence(head, state, buf, told)
 }
 
-#[unsafe(no_mangle)]
-pub extern "C" fn koy_initiator_hear(
+pub fn koy_initiator_hear(
     state: &mut [u8; 252],
     heard: &[u8],
     buf: &mut [u8],
@@ -205,8 +197,7 @@ pub extern "C" fn koy_initiator_hear(
     hear(head, state, heard, buf, told)
 }
 
-#[unsafe(no_mangle)]
-pub extern "C" fn koy_initiator_restart(state: &mut [u8; 252], told: &mut [usize; 3]) -> u8
+pub fn koy_initiator_restart(state: &mut [u8; 252], told: &mut [usize; 3]) -> u8
     ensures { record { code = result; told = told.new; state = state.new; buffer = [] } ≡ koy_initiator_restart state.old told.old }
 {
     let head = head_of(state);

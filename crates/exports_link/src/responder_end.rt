@@ -118,8 +118,7 @@ fn made(own: u8, peer: u8, state: &mut [u8]) -> u8
 }
 
 // Refusal 18.
-#[unsafe(no_mangle)]
-pub extern "C" fn koy_responder_new(state: &mut [u8; 250], own: u8, peer: u8) -> u8
+pub fn koy_responder_new(state: &mut [u8; 250], own: u8, peer: u8) -> u8
     ensures { record { code = result; state = state.new } ≡ koy_responder_new state.old own peer }
 {
     made(own, peer, state)
@@ -155,8 +154,7 @@ fn answer(
     finish(turn, state, told)
 }
 
-#[unsafe(no_mangle)]
-pub extern "C" fn koy_responder_hear(
+pub fn koy_responder_hear(
     state: &mut [u8; 250],
     heard: &[u8],
     buf: &mut [u8],
@@ -168,8 +166,7 @@ pub extern "C" fn koy_responder_hear(
     hear(head, state, heard, buf, told)
 }
 
-#[unsafe(no_mangle)]
-pub extern "C" fn koy_responder_answer(
+pub fn koy_responder_answer(
     state: &mut [u8; 250],
     reply: &[u8],
     buf: &mut [u8],
@@ -181,8 +178,7 @@ pub extern "C" fn koy_responder_answer(
     answer(head, state, reply, buf, told)
 }
 
-#[unsafe(no_mangle)]
-pub extern "C" fn koy_responder_restart(state: &mut [u8; 250])
+pub fn koy_responder_restart(state: &mut [u8; 250])
     ensures { state.new ≡ koy_responder_restart state.old }
 {
     let head = head_of(state);

@@ -1,6 +1,6 @@
 -- A call by value, crossed to the bytes of a record and read by its driver, is that call: of either end, `crossed_same`; of the initiator
 -- `initiator_crossed`, of the responder `responder_crossed`.
-use Prim.Native.Nat.{ℕ, ◌-◌, ◌<◌, ◌≤◌}
+use Prim.Native.Nat.{ℕ, ◌<◌, ◌≤◌}
 use mathlib.Core.Bool.{true, false}
 use mathlib.Core.List.{List, ◌∷◌}
 use mathlib.Core.Option.{none, some}

@@ -119,5 +119,4 @@ module _ (found : Found) (link : Link) (linked : Linked link) where
 
   -- when the bytes of a responder's record owe a reply
   pub owing : Owing (exported_link found link)
-  unfolding calls_follow
   owing = owing_same (exported_link found link) (order_link link) calls_follow (λ s. tt) (byValue.owing link linked)

@@ -19,8 +19,7 @@ fn told_of(settings: Settings) -> [usize; 3]
 }
 
 // Refusals 20, 18, 19, in this order.
-#[unsafe(no_mangle)]
-pub extern "C" fn koy_settings_read(text: &[u8], told: &mut [usize; 3]) -> u8
+pub fn koy_settings_read(text: &[u8], told: &mut [usize; 3]) -> u8
     ensures { record { code = result; told = told.new } ≡ koy_settings_read text.now told.old }
 {
     match read_settings(text) {
@@ -45,14 +44,7 @@ fn tell(written: SettingsWritten, told: &mut [usize; 1]) -> u8
 }
 
 // Refusals 18, 19, 10, in this order.
-#[unsafe(no_mangle)]
-pub extern "C" fn koy_settings_write(
-    own: u8,
-    peer: u8,
-    tries: u8,
-    buf: &mut [u8],
-    told: &mut [usize; 1],
-) -> u8
+pub fn koy_settings_write(own: u8, peer: u8, tries: u8, buf: &mut [u8], told: &mut [usize; 1]) -> u8
     ensures { record { code = result; told = told.new; buffer = buf.new }
         ≡ koy_settings_write own peer tries buf.old told.old }
 {

@@ -33,8 +33,7 @@ fn size(bytes: [u8; 132]) -> usize
 }
 
 // Refusal 11.
-#[unsafe(no_mangle)]
-pub extern "C" fn koy_stations_new(state: &mut [u8; 132], own: u8) -> u8
+pub fn koy_stations_new(state: &mut [u8; 132], own: u8) -> u8
     ensures { record { code = result; state = state.new } ≡ koy_stations_new state.old own }
 {
     let bytes = *state;
@@ -42,8 +41,7 @@ pub extern "C" fn koy_stations_new(state: &mut [u8; 132], own: u8) -> u8
     finish(TokenRing::new(Address(own)), state)
 }
 
-#[unsafe(no_mangle)]
-pub extern "C" fn koy_stations_witness(state: &mut [u8; 132], sa: u8, da: u8)
+pub fn koy_stations_witness(state: &mut [u8; 132], sa: u8, da: u8)
     ensures { state.new ≡ koy_stations_witness state.old sa da }
 {
     let bytes = *state;
@@ -51,8 +49,7 @@ pub extern "C" fn koy_stations_witness(state: &mut [u8; 132], sa: u8, da: u8)
     pack(ring.witness_token_pass(Address(sa), Address(da)), state);
 }
 
-#[unsafe(no_mangle)]
-pub extern "C" fn koy_stations_claim(state: &mut [u8; 132])
+pub fn koy_stations_claim(state: &mut [u8; 132])
     ensures { state.new ≡ koy_stations_claim state.old }
 {
     let bytes = *state;
@@ -61,8 +58,7 @@ pub extern "C" fn koy_stations_claim(state: &mut [u8; 132])
 }
 
 // Refusal 11.
-#[unsafe(no_mangle)]
-pub extern "C" fn koy_stations_set_next(state: &mut [u8; 132], address: u8) -> u8
+pub fn koy_stations_set_next(state: &mut [u8; 132], address: u8) -> u8
     ensures { record { code = result; state = state.new } ≡ koy_stations_set_next state.old address }
 {
     let bytes = *state;
@@ -71,8 +67,7 @@ pub extern "C" fn koy_stations_set_next(state: &mut [u8; 132], address: u8) -> u
 }
 
 // Refusal 11.
-#[unsafe(no_mangle)]
-pub extern "C" fn koy_stations_remove(state: &mut [u8; 132], address: u8) -> u8
+pub fn koy_stations_remove(state: &mut [u8; 132], address: u8) -> u8
     ensures { record { code = result; state = state.new } ≡ koy_stations_remove state.old address }
 {
     let bytes = *state;
@@ -90,8 +85,7 @@ fn about(ring: TokenRing) -> [usize; 4]
     [phase, own.0 as usize, next.0 as usize, previous.0 as usize]
 }
 
-#[unsafe(no_mangle)]
-pub extern "C" fn koy_stations_about(state: &[u8; 132], told: &mut [usize; 4])
+pub fn koy_stations_about(state: &[u8; 132], told: &mut [usize; 4])
     ensures { told.new ≡ koy_stations_about state.now }
 {
     let bytes = *state;
@@ -99,8 +93,7 @@ pub extern "C" fn koy_stations_about(state: &[u8; 132], told: &mut [usize; 4])
     *told = about(ring);
 }
 
-#[unsafe(no_mangle)]
-pub extern "C" fn koy_stations_is_active(state: &[u8; 132], address: u8) -> bool
+pub fn koy_stations_is_active(state: &[u8; 132], address: u8) -> bool
     ensures { result ≡ koy_stations_is_active state.now address }
 {
     let bytes = *state;
@@ -117,8 +110,7 @@ fn found_number(found: Found) -> usize
     }
 }
 
-#[unsafe(no_mangle)]
-pub extern "C" fn koy_stations_first_from(state: &[u8; 132], address: u8) -> usize
+pub fn koy_stations_first_from(state: &[u8; 132], address: u8) -> usize
     ensures { result ≡ koy_stations_first_from state.now address }
 {
     let bytes = *state;
@@ -126,8 +118,7 @@ pub extern "C" fn koy_stations_first_from(state: &[u8; 132], address: u8) -> usi
     found_number(ring.first_active_from(Address(address)))
 }
 
-#[unsafe(no_mangle)]
-pub extern "C" fn koy_stations_last_to(state: &[u8; 132], address: u8) -> usize
+pub fn koy_stations_last_to(state: &[u8; 132], address: u8) -> usize
     ensures { result ≡ koy_stations_last_to state.now address }
 {
     let bytes = *state;

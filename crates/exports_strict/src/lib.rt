@@ -9,8 +9,7 @@ use exports_telegrams::reading::koy_read;
 use telegram_strict::strict_start;
 
 // The start is judged here; the rest is the plain call's.
-#[unsafe(no_mangle)]
-pub extern "C" fn koy_read_strict(bytes: &[u8], told: &mut [usize; 9]) -> u8
+pub fn koy_read_strict(bytes: &[u8], told: &mut [usize; 9]) -> u8
     ensures { record { code = result; told = told.new } ≡ koy_read_strict bytes.now told.old }
 {
     let number = strict_start(bytes);

@@ -5,10 +5,8 @@ use Rattle.telegram.specs.Reading.{Reading, whole, incomplete, refused, read_of}
 use Rattle.telegram.specs.declared.header.DataTelegramHeader.{DataTelegramHeader}
 use Rattle.telegram.specs.declared.header.SapOption.{SapOption}
 use Rattle.telegram.specs.declared.header.SapOption.TheVariants.{Some, None}
-use Rattle.telegram.specs.declared.kinds.DataTelegram.{DataTelegram}
 use Rattle.telegram.specs.declared.kinds.Telegram.{Telegram}
 use Rattle.telegram.specs.declared.kinds.Telegram.TheVariants.{Data, Token, ShortConfirmation}
-use Rattle.telegram.specs.declared.kinds.TokenTelegram.{TokenTelegram}
 
 -- stands where a byte is absent: no byte is 256
 abbrev pub absent : ℕ

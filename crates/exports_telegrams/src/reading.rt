@@ -51,8 +51,7 @@ fn told_of(telegram: Telegram, total: usize) -> [usize; 9]
     }
 }
 
-#[unsafe(no_mangle)]
-pub extern "C" fn koy_read(bytes: &[u8], told: &mut [usize; 9]) -> u8
+pub fn koy_read(bytes: &[u8], told: &mut [usize; 9]) -> u8
     ensures { record { code = result; told = told.new } ≡ koy_read bytes.now told.old }
 {
     match Telegram::deserialize(bytes) {

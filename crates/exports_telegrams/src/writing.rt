@@ -65,8 +65,7 @@ fn sent_told(response: TelegramTxResponse) -> [usize; 2]
 }
 
 // Refusals 4, 8, 9, 10, in this order.
-#[unsafe(no_mangle)]
-pub extern "C" fn koy_write_data(
+pub fn koy_write_data(
     da: u8,
     sa: u8,
     dsap: usize,
@@ -92,15 +91,13 @@ fn code_of(res: TelegramTxResult) -> u8
     }
 }
 
-#[unsafe(no_mangle)]
-pub extern "C" fn koy_write_token(da: u8, sa: u8, buf: &mut [u8]) -> u8
+pub fn koy_write_token(da: u8, sa: u8, buf: &mut [u8]) -> u8
     ensures { record { code = result; buffer = buf.new } ≡ koy_write_token da sa buf.old }
 {
     code_of(send_token_telegram(Address(da), Address(sa), buf))
 }
 
-#[unsafe(no_mangle)]
-pub extern "C" fn koy_write_confirmation(buf: &mut [u8]) -> u8
+pub fn koy_write_confirmation(buf: &mut [u8]) -> u8
     ensures { record { code = result; buffer = buf.new } ≡ koy_write_confirmation buf.old }
 {
     code_of(send_short_confirmation(buf))

@@ -21,7 +21,6 @@ use Rattle.responder.specs.Calls as responder
 use Rattle.responder.specs.Records as responderRecords
 use Rattle.responder.specs.declared.state.Responder.{Responder}
 use Rattle.telegram.specs.Reading.{Reading, whole, incomplete, refused as unread, read_of}
-use Rattle.telegram.specs.declared.kinds.Telegram.{Telegram}
 use Rattle.telegram.specs.declared.kinds.Telegram.TheVariants.{Data, Token, ShortConfirmation}
 
 -- What a call of an end wrote is the front of the lent buffer, as long as the answer says.

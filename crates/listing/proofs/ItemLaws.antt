@@ -19,7 +19,7 @@ use Rattle.telegram.specs.Reading.{Reading, whole, incomplete, refused, top, sap
 use Rattle.telegram.specs.declared.kinds.DataTelegram.{DataTelegram}
 use Rattle.telegram.specs.declared.kinds.Telegram.{Telegram}
 use Rattle.telegram.specs.declared.kinds.Telegram.TheVariants as telegram
-use Rattle.telegram.proofs.Answers.{Answered, confirmation, token_whole, sd1, sd2, sd3, code_known, content_whole}
+use Rattle.telegram.proofs.Answers.{Content, content_whole, whole_data, code_known, Answered, confirmation, token_whole, sd1, sd2, sd3}
 use Rattle.telegram.proofs.ReadingLaws.{reason, total_within, total_positive, total_small, pdu_ends, addresses_small}
 use Rattle.telegram_strict.proofs.ModeLaws.{mode_alike, mode_numbered}
 use Rattle.telegram_strict.specs.Strict.{read_in}
@@ -27,7 +27,6 @@ use Rattle.telegram_strict.specs.declared.strict.Mode.{Mode}
 use Rattle.text.proofs.DecimalLaws.{small_length}
 use Rattle.listing_lines.specs.declared.line.End.{End}
 use Rattle.listing_lines.specs.declared.line.End.TheVariants.{Done, Incomplete, Refused}
-use Rattle.listing_lines.specs.declared.line.Kind.TheVariants.{Token, Data}
 use Rattle.listing_lines.specs.declared.line.Line.{Line}
 use Rattle.listing_lines.specs.declared.line.Item.{Item}
 use Rattle.listing_lines.specs.declared.line.Item.TheVariants as item
@@ -101,9 +100,9 @@ line_lies {mode} {at} {s} (of_telegram {t} {n} q) =
 -- ---- the function code
 
 code_lies : {s : List ℕ} {t : DataTelegram} {n : ℕ} → Answered s (whole (telegram.Data t) n) → code_place s < length s
-code_lies (sd1 h d (code_known fc g e (content_whole f a b))) = rw d (omega arith)
-code_lies (sd2 h d q l (code_known fc g e (content_whole f a b))) = rw d (omega arith)
-code_lies (sd3 h d (code_known fc g e (content_whole f a b))) = rw d (omega arith)
+code_lies (sd1 h d (code_known fc g e c)) = rw d (omega arith)
+code_lies (sd2 h d q l (code_known fc g e c)) = rw d (omega arith)
+code_lies (sd3 h d (code_known fc g e c)) = rw d (omega arith)
 
 -- a data telegram's function code stands within it
 pub code_within : (s : List ℕ) {t : DataTelegram} {n : ℕ} → read_of s ≡ whole (telegram.Data t) n → code_place s < length s
@@ -111,9 +110,9 @@ code_within s e = code_lies (reason s e)
 
 code_is : {s : List ℕ} {t : DataTelegram} {n : ℕ} → Answered s (whole (telegram.Data t) n) → function_code_of (byte_at s (code_place s)) ≡ codeFound.Is t.h.fc
 unfolding header_at
-code_is (sd1 h d (code_known fc g e (content_whole f a b))) = rw d e
-code_is (sd2 h d q l (code_known fc g e (content_whole f a b))) = rw d e
-code_is (sd3 h d (code_known fc g e (content_whole f a b))) = rw d e
+code_is (sd1 h d (code_known fc g e c)) = rw (whole_data fc c, d) e
+code_is (sd2 h d q l (code_known fc g e c)) = rw (whole_data fc c, d) e
+code_is (sd3 h d (code_known fc g e c)) = rw (whole_data fc c, d) e
 
 -- the byte that `fc` shows is the one from which the telegram's function code was read
 pub code_read : (s : List ℕ) {t : DataTelegram} {n : ℕ} → read_of s ≡ whole (telegram.Data t) n → function_code_of (byte_at s (code_place s)) ≡ codeFound.Is t.h.fc
@@ -133,9 +132,9 @@ header_saps_length s at fc byte =
 
 saps_length : {s : List ℕ} {t : DataTelegram} {n : ℕ} → Bytes s → Answered s (whole (telegram.Data t) n)
     → (length (figure_of (sap_figure t.h.dsap)) ≤ 3) × (length (figure_of (sap_figure t.h.ssap)) ≤ 3)
-saps_length {s} byte (sd1 h d (code_known fc g e (content_whole f a b))) = header_saps_length s 1 fc byte
-saps_length {s} byte (sd2 h d q l (code_known fc g e (content_whole f a b))) = header_saps_length s 4 fc byte
-saps_length {s} byte (sd3 h d (code_known fc g e (content_whole f a b))) = header_saps_length s 1 fc byte
+saps_length {s} byte (sd1 h d (code_known fc g e c)) = rw (whole_data fc c) (header_saps_length s 1 fc byte)
+saps_length {s} byte (sd2 h d q l (code_known fc g e c)) = rw (whole_data fc c) (header_saps_length s 4 fc byte)
+saps_length {s} byte (sd3 h d (code_known fc g e c)) = rw (whole_data fc c) (header_saps_length s 1 fc byte)
 
 -- a line's length, for each byte of its telegram and in all
 pub record Fits (l : Line) : Type 0 where
@@ -182,12 +181,15 @@ module _ (at : ℕ) (s : List ℕ) (low : at < 10000) (byte : Bytes s) where
       let one = small_length 1 (omega arith) in
       record { weight = omega arith; short = omega arith }
 
+  content_fits : {start l : ℕ} (fc : FunctionCode) {t : Telegram} {n : ℕ} → read_of s ≡ whole t n → Content s start l fc (whole t n) → Fits (line_at at s t n)
+  content_fits fc e (content_whole f a b) = data_fits _ _ e
+
   telegram_fits : {t : Telegram} {n : ℕ} → read_of s ≡ whole t n → Answered s (whole t n) → Fits (line_at at s t n)
   telegram_fits e (confirmation h d) = ack_fits
   telegram_fits e (token_whole h d) = token_fits
-  telegram_fits e (sd1 h d (code_known fc g q (content_whole f a b))) = data_fits _ _ e
-  telegram_fits e (sd2 h d l k (code_known fc g q (content_whole f a b))) = data_fits _ _ e
-  telegram_fits e (sd3 h d (code_known fc g q (content_whole f a b))) = data_fits _ _ e
+  telegram_fits e (sd1 h d (code_known fc g q c)) = content_fits fc e c
+  telegram_fits e (sd2 h d l k (code_known fc g q c)) = content_fits fc e c
+  telegram_fits e (sd3 h d (code_known fc g q c)) = content_fits fc e c
 
   read_fits : (mode : Mode) {t : Telegram} {n : ℕ} → read_in mode s ≡ whole t n → Fits (line_at at s t n)
   read_fits mode q = let e = mode_alike mode s q in telegram_fits e (reason s e)

@@ -1,5 +1,4 @@
 -- Document 01, "Responder": its record, and how one is made. Read `made_of`.
-use Rattle.std.specs.Prelude.{ℕ}
 use Rattle.ground.specs.Pick.{if}
 use Rattle.ground.specs.Refusals.{shown}
 use Rattle.link_rules.specs.Rules.{wrong_addresses, no_link}

@@ -8,7 +8,7 @@ ghost use Rattle.token_ring.specs.Rules.{claimed, station_answer, witnessed};
 ghost use Rattle.ring_demo.specs.Played.{played, played_on};
 
 use ground::{Address, Answer};
-use libc::STDOUT_FILENO;
+use std::io;
 use token_ring::{Found, TokenRing};
 
 // The list is lent to the driver's call and found changed.
@@ -83,33 +83,32 @@ fn check_claim(ring: TokenRing) {
     check::expect(valid.ready_for_ring());
 }
 
-fn print_station(address: u8) {
-    io::print_decimal(STDOUT_FILENO, address as u64);
-    io::write_all(STDOUT_FILENO, b"\n");
+fn print_station(rt: &impl Print, address: u8) -> io::Result<()> {
+    println!(rt; "{address}")
 }
 
-fn print_stations(ring: TokenRing) {
+fn print_stations(rt: &impl Print, ring: TokenRing) -> io::Result<()> {
     let mut from: u8 = 0;
     loop {
         let found = ring.first_active_from(Address(from));
         let Found::Station(station) = found else {
-            return;
+            return Ok(());
         };
         let at = station.0;
-        print_station(at);
+        print_station(rt, at)?;
         if 125 < at {
-            return;
+            return Ok(());
         }
         from = at + 1;
     }
 }
 
-fn main() {
+fn main(rt: HostRuntime) -> io::Result<()> {
     let ring = discovered();
     check_neighbours(ring);
     check_refusals(ring);
     check_claim(ring);
     let valid = verified(ring);
     check::expect(valid.ready_for_ring());
-    print_stations(valid);
+    print_stations(&rt, valid)
 }

@@ -1,5 +1,5 @@
--- No second outcome fits the promise of a public call of `ring_driver`, which is lent the station list. The calls are proved by hand, so
--- each promise is written out here and is shown to be the function's `ensures`.
+-- No second outcome fits the promise of a public call of `ring_driver`, which is lent the station list. Each promise is
+-- written out here and is shown to be the function's `ensures`.
 use mathlib.Core.Path.{◌≡◌, refl}
 use Rattle.ground.proofs.DeterminedLaws.{left}
 use Rattle.token_ring.proofs.Determined.{gives_one}
@@ -24,13 +24,13 @@ abbrev remove : Promise remove_station.ended
 remove κs a x e = Gives (station_answer a.1.0.0) (removed a.1.0.0 a.0.now) (record { answer = x; ring = e.0.now })
 
 pub record Calls : Type 2 where
-  pub witness_says : Says witness_token_pass.ended (λ M. witness_token_pass.clauses) witness
+  pub witness_says : Says witness_token_pass.ended (λ M 𝓤 𝓛. witness_token_pass.clauses 𝓛) witness
   pub witness_token_pass : Determined witness_token_pass.ended witness
-  pub claim_says : Says claim_token.ended (λ M. claim_token.clauses) claim
+  pub claim_says : Says claim_token.ended (λ M 𝓤 𝓛. claim_token.clauses 𝓛) claim
   pub claim_token : Determined claim_token.ended claim
-  pub set_next_says : Says set_next_station.ended (λ M. set_next_station.clauses) set_next
+  pub set_next_says : Says set_next_station.ended (λ M 𝓤 𝓛. set_next_station.clauses 𝓛) set_next
   pub set_next_station : Determined set_next_station.ended set_next
-  pub remove_says : Says remove_station.ended (λ M. remove_station.clauses) remove
+  pub remove_says : Says remove_station.ended (λ M 𝓤 𝓛. remove_station.clauses 𝓛) remove
   pub remove_station : Determined remove_station.ended remove
 
 pub determined : Calls

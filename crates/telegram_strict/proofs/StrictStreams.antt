@@ -1,14 +1,14 @@
 -- A stream in strict mode beside document 01's: its telegrams are those that document 01's reader finds, `strict_front`, up to the first sloppy one, whose
 -- place and number it ends with; where there is none, the two streams are one: `strict_stream`.
-use Prim.Native.Nat.{ℕ, ◌<◌}
+use Prim.Native.Nat.{ℕ}
 use mathlib.Core.List.{List}
-use mathlib.Core.Path.{◌≡◌, refl, sym, ◌∙◌}
+use mathlib.Core.Path.{◌≡◌, refl}
 use native.Mathlib.Omega.{arith}
-use lib.ListN.{length, drop}
+use lib.ListN.{drop}
 use Rattle.telegram.proofs.StreamLaws.{reading_advances, stream_is, stream_exactly}
 use Rattle.telegram.specs.Reading.{read_of}
 use Rattle.telegram.specs.Reading as reading
-use Rattle.telegram.specs.Stream.{Event, Ending, incomplete, refused, Stream, stream_by, stream_of, Chain, no_more, one_more, Ends, at_end, cut, stopped, StreamIs}
+use Rattle.telegram.specs.Stream.{Event, Ending, refused, Stream, stream_by, stream_of, Chain, no_more, one_more, Ends, at_end, cut, stopped, StreamIs}
 use Rattle.telegram_strict.proofs.StartLaws.{StrictFor, sloppy, default, strict_for}
 use Rattle.telegram_strict.proofs.Theorems.{strict_alike, strict_advances}
 use Rattle.telegram_strict.specs.Sloppy.{Sloppy}

@@ -5,15 +5,14 @@ use Prim.Native.Nat.{ℕ, ◌<◌, ◌≤◌}
 use mathlib.Core.Bool.{Bool, true, false}
 use mathlib.Core.List.{List, [], ◌∷◌, ◌++◌}
 use mathlib.Core.Logic.{◌⊎◌, inl, inr, ◌↔◌}
-use mathlib.Core.Path.{◌≡◌, refl, sym, ◌∙◌, ap}
+use mathlib.Core.Path.{◌≡◌, refl, sym, ◌∙◌}
 use native.Mathlib.Decide.{dec_le}
 use native.Mathlib.Omega.{arith}
 use lib.Dec.{eqb}
 use lib.ListN.{length, length-append}
 use borrow.Author.Tests.{eqb-true, eqb-false}
 use Rattle.codes.specs.Checksums.{checksum_of}
-use Rattle.codes.specs.Delimiters.{SD1, SD2, SD3, ED}
-use Rattle.ground.proofs.Injective.{zero_one}
+use Rattle.codes.specs.Delimiters.{SD2, ED}
 use Rattle.ground.specs.Part.{byte_at}
 use Rattle.telegram.proofs.AskedLaws.{incomplete_exactly}
 use Rattle.telegram.proofs.DrawnLaws.{Wider, begins_wider, begins_from, picture_reads}

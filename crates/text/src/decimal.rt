@@ -34,6 +34,7 @@ fn digit(d: usize) -> u8
 }
 
 // The digits before the last are those of n / 10; there are at most 20, so it calls itself at most 19 deep.
+#[tactic(auto, using(crate::proofs::DecimalLaws::decimal_small))]
 pub fn put_decimal(buf: &mut [u8], at: usize, n: usize) -> usize
     ensures { Placed buf.old at (decimal_of n) result buf.new }
 {

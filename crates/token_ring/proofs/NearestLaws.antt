@@ -1,6 +1,6 @@
 -- Laws of the nearest active address: a turn of the loop that looks for it, and that it is the next station (`next_nearest`) or the previous one
 -- (`previous_nearest`).
-use Rattle.std.proofs.Common.{◌≡◌, ℕ, suc, ◌+◌, ◌-◌, ◌%◌, ◌<◌, ◌≤◌, min, Bool, true, false, eqb, List, length, sym, refl, ◌∙◌, add-one, arith, eq-eqb, ne_eqb}
+use Rattle.std.proofs.Common.{◌≡◌, ℕ, suc, ◌+◌, ◌%◌, ◌<◌, ◌≤◌, min, Bool, true, false, eqb, List, length, sym, refl, ◌∙◌, add-one, arith, eq-eqb, ne_eqb}
 use mathlib.Core.Logic.{by_cases}
 use mathlib.Core.Option.{Option, none, some}
 use native.Mathlib.Decide.{dec_lt}

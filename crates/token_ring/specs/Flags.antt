@@ -1,6 +1,6 @@
 -- Document 01, "The station list": the 128 flags, a list with the flag of address 0 first. An address that has no flag is not active. Read
 -- `active`, `lowest_from`, `highest_below` and `shown_found`, which promises cite; `cleared` and `quiet` are for specs/Rules.antt.
-use Rattle.std.specs.Prelude.{ℕ, suc, ◌-◌, Bool, true, false, ◌&&◌, List, [], ◌∷◌, take, drop, nat_le, nat_lt, slice_index_or, slice_range}
+use Rattle.std.specs.Prelude.{ℕ, suc, Bool, true, false, ◌&&◌, List, [], ◌∷◌, take, drop, nat_le, nat_lt, slice_index_or, slice_range}
 use Rattle.std.proofs.Math.Option.{Option, none, some}
 use Rattle.ground.specs.Pick.{if}
 use Rattle.token_ring.specs.declared.found.Found.{Found}

@@ -1,6 +1,6 @@
 -- Document 01, "The station list": the rules, over the flags and over the whole list. Read `made`, `witnessed` with `effect_of`, `claimed`, `next_set`
 -- and `removed`, each the promise of a call.
-use Rattle.std.specs.Prelude.{ℕ, suc, Bool, true, false, ◌&&◌, ◌||◌, List, set, replicate, nat_le, nat_lt, slice_set}
+use Rattle.std.specs.Prelude.{ℕ, suc, Bool, true, false, ◌&&◌, ◌||◌, List, replicate, nat_le, nat_lt, slice_set}
 use Rattle.std.proofs.Math.Option.{Option, none, some}
 use Rattle.ground.specs.Pick.{if}
 use Rattle.token_ring.specs.Flags.{active, cleared, quiet, lowest_from, highest_below}

@@ -1,15 +1,10 @@
 -- `decimal_len` meets its contract: each turn takes the last digit away and counts it, and one is left at the end.
-use mathlib.Core.Path.{◌≡◌}
-use Prim.Native.Nat.{◌+◌}
 use native.Mathlib.Omega.{arith}
-use lib.ListN.{length}
-use Rattle.text.specs.Decimal.{decimal_of}
 use Rattle.text.proofs.DecimalLaws.{decimal_length_word, small_length, large_length}
 use Rattle.text.proofs.decimal.decimal_len.Goals as goal
 
 pub overflow_add-len : goal.overflow_add-len
 overflow_add-len c =
- 
     omega (arith, decimal_length_word c.args.n c.ranges.n.fits)
 
 pub loop-rest-preserved : goal.loop-rest-preserved

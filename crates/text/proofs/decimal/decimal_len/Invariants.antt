@@ -1,10 +1,8 @@
 -- `decimal_len` meets its contract: each turn takes the last digit away and counts it, and one is left at the end.
 use mathlib.Core.Path.{◌≡◌}
 use Prim.Native.Nat.{◌+◌}
-use native.Mathlib.Omega.{arith}
 use lib.ListN.{length}
 use Rattle.text.specs.Decimal.{decimal_of}
-use Rattle.text.proofs.DecimalLaws.{decimal_length_word, small_length, large_length}
 use Rattle.text.proofs.decimal.decimal_len.Given as goal
 
 abbrev pub invariant-loop-rest : goal.invariant-loop-rest

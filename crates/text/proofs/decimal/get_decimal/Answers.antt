@@ -1,6 +1,5 @@
 -- `get_decimal` meets its contract: the definition's two tests, on what `digits_at` and `is_decimal` ensure.
 use mathlib.Core.Path.{sym, ◌∙◌}
-use borrow.Author.Tests.{not-true, not-false}
 use Rattle.text.proofs.ReadingLaws.{number_none, number_above, number_found}
 use Rattle.text.proofs.decimal.get_decimal.Goals as goal
 
@@ -9,10 +8,8 @@ returns-then-not-is_decimal c = sym (number_none _ _ _ (sym c.is_decimal.ensures
 
 pub returns-then-value-limit : goal.returns-then-value-limit
 returns-then-value-limit c =
- 
     sym (number_above c.digits_at-digits.ensures (sym c.is_decimal.ensures ∙ c.if-not-is_decimal.false) c.if-value-limit.true)
 
 pub returns : goal.returns
 returns c =
- 
     sym (number_found c.digits_at-digits.ensures (sym c.is_decimal.ensures ∙ c.if-not-is_decimal.false) c.if-value-limit.false)

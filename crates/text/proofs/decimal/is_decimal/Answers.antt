@@ -10,10 +10,6 @@ use Rattle.text.proofs.DecimalLaws.{digits_in_digits}
 use Rattle.text.proofs.ReadingLaws.{digits_head, digits_within, no_digit, one_digit, several_digits}
 use Rattle.text.proofs.decimal.is_decimal.Goals as goal
 
--- past both tests there are several digits
-several : (c : goal.After-shared_slice_known-1) → 1 < length (digits_in (drop c.args.at c.args.text.now))
-several c = omega arith
-
 pub returns-then-next-at : goal.returns-then-next-at
 returns-then-next-at c = sym (no_digit _ (omega arith))
 
@@ -22,11 +18,11 @@ returns-then-next-at-eq1 c = sym (one_digit _ (digits_in_digits _) (omega arith)
 
 pub bounds-text-at : goal.bounds-text-at
 bounds-text-at c =
- 
-    omega (arith, several c, digits_within c.args.text.now c.args.at (omega (arith, several c)))
+    let several : 1 < length (digits_in (drop c.args.at c.args.text.now)) = omega arith in
+    omega (arith, digits_within c.args.text.now c.args.at (omega arith))
 
 pub returns : goal.returns
 returns c =
- 
-    ap (λ (b : ℕ). not (eqb b 48)) (sym (digits_head c.args.text.now c.args.at (omega (arith, several c))))
-    ∙ sym (several_digits _ (digits_in_digits _) (several c))
+    let several : 1 < length (digits_in (drop c.args.at c.args.text.now)) = omega arith in
+    ap (λ (b : ℕ). not (eqb b 48)) (sym (digits_head c.args.text.now c.args.at (omega arith)))
+    ∙ sym (several_digits _ (digits_in_digits _) several)

@@ -1,10 +1,8 @@
 -- `put_hex` meets its contract: after i turns the digits of the first i bytes are placed, and a turn places those of one more.
-use mathlib.Core.Path.{refl}
 use Prim.Native.Nat.{◌-◌}
 use lib.ListN.{length}
 use Rattle.text.specs.Hex.{hex_of}
-use Rattle.text.proofs.HexLaws.{hex_append}
-use Rattle.text.proofs.PlacedLaws.{kept, Rows, rows_start, rows_turn, rows_end}
+use Rattle.text.proofs.PlacedLaws.{Rows}
 use Rattle.text.proofs.hex.put_hex.Given as goal
 
 abbrev pub invariant-loop-i : goal.invariant-loop-i

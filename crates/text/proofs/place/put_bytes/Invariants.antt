@@ -1,9 +1,8 @@
 -- `put_bytes` meets its contract: after i turns the first i bytes are placed, and a turn places one more behind them.
 use mathlib.Core.List.{List}
-use mathlib.Core.Path.{refl}
 use Prim.Native.Nat.{ℕ, ◌-◌}
 use lib.ListN.{length}
-use Rattle.text.proofs.PlacedLaws.{kept, Rows, rows_start, rows_turn, rows_end}
+use Rattle.text.proofs.PlacedLaws.{Rows}
 use Rattle.text.proofs.place.put_bytes.Given as goal
 
 abbrev pub invariant-loop-i : goal.invariant-loop-i

@@ -39,7 +39,7 @@ use mathlib.Core.List.{[], ◌∷◌}
 use mathlib.Core.Path.{◌≡◌, refl, ◌∙◌}
 use denote.Ref.{at_last}
 use lib.Dec.{eqb}
-use lib.ListN.{length, get_or, replicate, length-replicate}
+use lib.ListN.{length, replicate, length-replicate}
 use Rattle.acceptance.proofs.RefusedLaws.{carried, front_stays, written_stays, coded_stays, settings_stay, listing_stays, station_refused, next_set_stays, removed_stays, FillStays, fill_stays, read_told, WriteStays, write_data_stays, bare_stays, stations_stay, settings_told, SettingsStay, settings_write_stays, walk_moves, StepMoves, step_moves, FillCallStays, fill_call_stays, row_kept}
 use Rattle.acceptance.proofs.RefusedTurns.{Unmoved, submit_unmoved, silence_unmoved, hear_unmoved, restart_unmoved, responder_hear_unmoved, answer_unmoved, submit_on_lem, silence_on_lem, hear_on_lem, responder_hear_on, answer_on_lem, Uncrossed, Unguarded, new_stays, guarded_new_stays, koy_submit, koy_silence, koy_initiator_hear_lem, koy_restart, koy_responder_hear_lem, koy_answer, stamped_stays, numbered_stays, ignored_stays, other_stays}
 use Rattle.acceptance.specs.Refused.{IsRefused, IsNumber, sized, RefusedLeaves, RefusedStays, RefusedKeeps}
@@ -104,7 +104,6 @@ use Rattle.exports_stations.specs.contracts.stations.koy_stations_remove as koy_
 use Rattle.exports_stations.proofs.stations.koy_stations_remove.Reads as koy_stations_remove_reads
 use Rattle.exports_stations.specs.contracts.stations.koy_stations_set_next as koy_stations_set_next
 use Rattle.exports_stations.proofs.stations.koy_stations_set_next.Reads as koy_stations_set_next_reads
-use Rattle.exports_stations.specs.Bytes.{stations_of}
 use Rattle.exports_stations.specs.Calls as stations
 use Rattle.exports_strict.specs.contracts.koy_read_strict as koy_read_strict
 use Rattle.exports_strict.proofs.koy_read_strict.Reads as koy_read_strict_reads
@@ -141,7 +140,7 @@ use Rattle.initiator.proofs.state.Initiator.submit.Reads as submit_reads
 use Rattle.initiator.specs.contracts.state.Initiator.with_default_tries as with_default_tries
 use Rattle.initiator.proofs.state.Initiator.with_default_tries.Reads as with_default_tries_reads
 use Rattle.initiator.specs.Calls as initiator
-use Rattle.initiator.specs.Heads.{whole_of, head_after}
+use Rattle.initiator.specs.Heads.{head_after}
 use Rattle.initiator.specs.Records.{made_of as initiator_made}
 use Rattle.link_rules.specs.Rules.{link_of}
 use Rattle.link_telegrams.specs.Turns as turns
@@ -154,6 +153,7 @@ use Rattle.listing.proofs.whole.output.Reads as output_reads
 use Rattle.listing.specs.contracts.whole.output_in as output_in
 use Rattle.listing.proofs.whole.output_in.Reads as output_in_reads
 use Rattle.listing.specs.Answers as listing
+use Rattle.listing.specs.Listing as listing_rules
 use Rattle.responder.specs.contracts.head.ResponderHead.answer as responder_head_answer
 use Rattle.responder.proofs.head.ResponderHead.answer.Reads as responder_head_answer_reads
 use Rattle.responder.specs.contracts.head.ResponderHead.hear as responder_head_hear
@@ -175,6 +175,7 @@ use Rattle.settings.proofs.settings.read_settings.Reads as read_settings_reads
 use Rattle.settings.specs.contracts.settings.write_settings as write_settings
 use Rattle.settings.proofs.settings.write_settings.Reads as write_settings_reads
 use Rattle.settings.specs.Reading as settingsReading
+use Rattle.settings.specs.Text.{text_of}
 use Rattle.settings.specs.Writing as settingsWriting
 use Rattle.telegram.specs.contracts.frame.frame_of as frame_of
 use Rattle.telegram.proofs.frame.frame_of.Reads as frame_of_reads
@@ -212,7 +213,7 @@ use Rattle.token_ring.proofs.ring.TokenRing.remove_station.Reads as remove_stati
 use Rattle.token_ring.specs.contracts.ring.TokenRing.set_next_station as set_next_station
 use Rattle.token_ring.proofs.ring.TokenRing.set_next_station.Reads as set_next_station_reads
 use Rattle.token_ring.specs.Promises.{Gives}
-use Rattle.token_ring.specs.Rules.{made, next_set, removed, station_answer}
+use Rattle.token_ring.specs.Rules.{next_set, removed, station_answer}
 
 -- The two calls on a lent station list are proved by hand and have no `Learnt`: their promises, which `Says` shows to be their `ensures`.
 abbrev lent_set_next : Promise lent_set_next_station.ended
@@ -263,9 +264,9 @@ pub record EveryRefusal : Type 2 where
   pub remove_station :
       RefusedKeeps remove_station.ended remove_station_reads.Learnt (λ κs x. IsNumber (shown x.answer))
       (λ κs e. e) (λ κs a x. x.ring) (λ κs a. a.0)
-  pub lent_set_next_says : Says lent_set_next_station.ended (λ M. lent_set_next_station.clauses) lent_set_next
+  pub lent_set_next_says : Says lent_set_next_station.ended (λ M 𝓤 𝓛. lent_set_next_station.clauses 𝓛) lent_set_next
   pub lent_set_next_station : RefusedStays lent_set_next_station.ended lent_set_next (λ κs x. IsNumber (shown x)) (λ κs e. e)
-  pub lent_remove_says : Says lent_remove_station.ended (λ M. lent_remove_station.clauses) lent_remove
+  pub lent_remove_says : Says lent_remove_station.ended (λ M 𝓤 𝓛. lent_remove_station.clauses 𝓛) lent_remove
   pub lent_remove_station : RefusedStays lent_remove_station.ended lent_remove (λ κs x. IsNumber (shown x)) (λ κs e. e)
   -- diagnostics: filling answers false; a refused step moves the cursor to the end of what is walked
   pub fill : RefusedKeeps fill.ended fill_reads.Learnt (λ κs x. x.filled ≡ false) (λ κs e. e) (λ κs a x. x.diag) (λ κs a. a.0)
@@ -473,31 +474,31 @@ refused_stays_lem =
       write_settings =
           record {
             leaves = λ κs a m r.
-                let p = settings_stay _ _ m.meets.result m.meets.buffer r in
+                let p = settings_stay (text_of a.0.own.0 a.0.peer.0 a.0.tries) _ m.meets.result m.meets.buffer r in
                 (λ i. (a.0, (at_last a.1.0 (p i), tt)), refl);
           };
       list =
           record {
             leaves = λ κs a m r.
-                let p = listing_stays _ _ m.meets.result m.meets.buffer r in
+                let p = listing_stays (listing_rules.listing_of a.0.now) _ m.meets.result m.meets.buffer r in
                 (λ i. (a.0, (at_last a.1.0 (p i), tt)), refl);
           };
       output =
           record {
             leaves = λ κs a m r.
-                let p = listing_stays _ _ m.meets.result m.meets.buffer r in
+                let p = listing_stays (listing_rules.output_of a.0.now) _ m.meets.result m.meets.buffer r in
                 (λ i. (a.0, (at_last a.1.0 (p i), tt)), refl);
           };
       list_in =
           record {
             leaves = λ κs a m r.
-                let p = listing_stays _ _ m.meets.result m.meets.buffer r in
+                let p = listing_stays (listing_rules.listing_in a.0 a.1.0.now) _ m.meets.result m.meets.buffer r in
                 (λ i. (a.0, (a.1.0, (at_last a.1.1.0 (p i), tt))), refl);
           };
       output_in =
           record {
             leaves = λ κs a m r.
-                let p = listing_stays _ _ m.meets.result m.meets.buffer r in
+                let p = listing_stays (listing_rules.output_in a.0 a.1.0.now) _ m.meets.result m.meets.buffer r in
                 (λ i. (a.0, (a.1.0, (at_last a.1.1.0 (p i), tt))), refl);
           };
       initiator_new = record { leaves = λ κs a m r. (refl, refl) };
@@ -660,7 +661,7 @@ refused_stays_lem =
       koy_settings_write =
           record {
             leaves = λ κs a m r.
-                let s = (carried (SettingsStay _ _) m.meets (settings_write_stays (settingsWriting.write_of a.0 a.1.0 a.1.1.0 (length a.1.1.1.0.now)) a.1.1.1.1.0.now _ a.1.1.1.0.now)).same r in
+                let s = (carried (SettingsStay _ _) m.meets (settings_write_stays (settingsWriting.write_of a.0 a.1.0 a.1.1.0 (length a.1.1.1.0.now)) a.1.1.1.1.0.now (text_of a.0 a.1.0 a.1.1.0) a.1.1.1.0.now)).same r in
                 (λ i. (a.0, (a.1.0, (a.1.1.0, (at_last a.1.1.1.0 (s.1 i), (at_last a.1.1.1.1.0 (s.0 i), tt))))), refl);
           };
       koy_initiator_new =

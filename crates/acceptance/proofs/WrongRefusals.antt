@@ -4,6 +4,7 @@ use mathlib.Core.Bool.{false}
 use mathlib.Core.List.{[], ◌∷◌}
 use mathlib.Core.Path.{◌≡◌, refl, ap, sym}
 use denote.Ref.{Bor}
+use denote.MutBor.{MutBor}
 use lib.Dec.{lit≤}
 use lib.ListN.{length, get_or}
 use Rattle.acceptance.specs.Refused.{IsRefused, IsNumber, RefusedLeaves, RefusedStays, RefusedKeeps}
@@ -55,6 +56,10 @@ use Rattle.token_ring.specs.Rules.{station_answer, fresh}
 abbrev to : {A : Type 0} → A → Bor A
 to x = record { ref_ptr = (0, 0); now = x }
 
+-- a `&mut` to it
+abbrev to_mut : {A : Type 0} → A → MutBor A
+to_mut x = record { ref_ptr = (0, 0); ghost_name = 0; now = x }
+
 -- ---- promises of the answer alone
 
 -- Writing: a promise that is silent about the buffer lets a write to station 200, which is refused with 8, change it.
@@ -68,7 +73,7 @@ pub silent_about_the_buffer : RefusedStays send_data_telegram.ended answer_alone
 unfolding write_of
 silent_about_the_buffer stays =
     let same =
-    (stays.leaves ([], ([], tt)) (to_station200, (to [], (to (1 ∷ []), tt)))
+    (stays.leaves ([], ([], tt)) (to_station200, (to [], (to_mut (1 ∷ []), tt)))
     (record { result = writingAnswer.Refused refusal.AddressTooLarge; last = (tt, (tt, (0 ∷ [], tt))); meets = refl })
     (record { number = 8; is = refl })
     ).0 in
@@ -122,7 +127,7 @@ drops κs a x e = (x.filled ≡ false) × ((x.diag.length ≡ 0) × (e.1.0.now �
 pub filling_that_drops : RefusedKeeps fill.ended drops (λ κs x. x.filled ≡ false) (λ κs e. e) (λ κs a x. x.diag) (λ κs a. a.0) → ⊥
 filling_that_drops keeps =
     let same =
-    (keeps.leaves ([], ([], tt)) (record { length = 1 }, (to [], (to [], tt)))
+    (keeps.leaves ([], ([], tt)) (record { length = 1 }, (to_mut [], (to [], tt)))
     (record {
       result = record { filled = false; diag = record { length = 0 } };
       last = (tt, ([], (tt, tt)));
@@ -140,7 +145,7 @@ pub tells_though_refused : RefusedStays koy_read.ended tells_zero (λ κs x. IsN
 unfolding read_of
 tells_though_refused stays =
     let same =
-    (stays.leaves ([], ([], tt)) (to (0 ∷ []), (to (1 ∷ []), tt))
+    (stays.leaves ([], ([], tt)) (to (0 ∷ []), (to_mut (1 ∷ []), tt))
     (record { result = 1; last = (tt, (0 ∷ [], tt)); meets = (refl, refl) })
     (lit≤ tt, lit≤ tt)
     ).0 in
@@ -153,7 +158,7 @@ stamps κs a x e = (x ≡ 10) × (e.1.0.now ≡ a.1.1.0 ∷ [])
 pub stamps_though_refused : RefusedStays koy_guarded_initiator_submit.ended stamps (λ κs x. IsNumber x) (λ κs e. e) → ⊥
 stamps_though_refused stays =
     let same =
-    (stays.leaves ([], ([], ([], ([], ([], tt))))) (to [], (to (0 ∷ []), (1, (to [], (to [], (to [], tt))))))
+    (stays.leaves ([], ([], ([], ([], ([], tt))))) (to_mut [], (to_mut (0 ∷ []), (1, (to [], (to_mut [], (to_mut [], tt))))))
     (record { result = 10; last = ([], (1 ∷ [], (tt, (tt, ([], ([], tt)))))); meets = (refl, refl) })
     (lit≤ tt, lit≤ tt)
     ).0 in

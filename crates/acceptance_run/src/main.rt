@@ -8,9 +8,14 @@ mod reading;
 mod stations;
 mod writing;
 
-fn main() {
-    reading::samples();
-    stations::samples();
-    blocks::samples();
-    writing::samples();
+use line_text::printing::Streams;
+use std::io;
+
+fn main(rt: HostRuntime) -> io::Result<()> {
+    let streams = Streams::new(rt.stdin(), rt.stdout(), rt.stderr());
+    reading::samples(&streams);
+    stations::samples(&streams);
+    blocks::samples(&streams);
+    writing::samples(&streams);
+    streams.end()
 }

@@ -1,48 +1,48 @@
 // The pieces of a line: `sample=NAME`, then `key=value` for what was answered.
 use ground::Refusal;
-use libc::STDOUT_FILENO;
+use line_text::printing::{Streams, print, print_decimal};
 
-pub(crate) fn text(bytes: &[u8]) {
-    io::write_all(STDOUT_FILENO, bytes);
+pub(crate) fn text(streams: &Streams, bytes: &[u8]) {
+    print(streams, bytes);
 }
 
-pub(crate) fn decimal(number: usize) {
-    io::print_decimal(STDOUT_FILENO, number as u64);
+pub(crate) fn decimal(streams: &Streams, number: usize) {
+    print_decimal(streams, number);
 }
 
-pub(crate) fn byte(number: u8) {
-    io::print_decimal(STDOUT_FILENO, number as u64);
+pub(crate) fn byte(streams: &Streams, number: u8) {
+    print_decimal(streams, number as usize);
 }
 
 // A number behind its key.
-pub(crate) fn named_decimal(key: &[u8], number: usize) {
-    text(key);
-    decimal(number);
+pub(crate) fn named_decimal(streams: &Streams, key: &[u8], number: usize) {
+    text(streams, key);
+    decimal(streams, number);
 }
 
-pub(crate) fn named_byte(key: &[u8], number: u8) {
-    text(key);
-    byte(number);
+pub(crate) fn named_byte(streams: &Streams, key: &[u8], number: u8) {
+    text(streams, key);
+    byte(streams, number);
 }
 
-pub(crate) fn sample(name: &[u8]) {
-    text(b"sample=");
-    text(name);
+pub(crate) fn sample(streams: &Streams, name: &[u8]) {
+    text(streams, b"sample=");
+    text(streams, name);
 }
 
-pub(crate) fn refused(refusal: Refusal) {
-    named_byte(b" refused=", refusal.number());
+pub(crate) fn refused(streams: &Streams, refusal: Refusal) {
+    named_byte(streams, b" refused=", refusal.number());
 }
 
-pub(crate) fn named_flag(key: &[u8], on: bool) {
-    text(key);
+pub(crate) fn named_flag(streams: &Streams, key: &[u8], on: bool) {
+    text(streams, key);
     if on {
-        text(b"yes");
+        text(streams, b"yes");
     } else {
-        text(b"no");
+        text(streams, b"no");
     }
 }
 
-pub(crate) fn end() {
-    text(b"\n");
+pub(crate) fn end(streams: &Streams) {
+    text(streams, b"\n");
 }

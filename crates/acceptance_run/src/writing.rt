@@ -2,6 +2,7 @@
 use crate::{print, reading};
 use codes::{FrameCountBit, FunctionCode};
 use ground::Address;
+use line_text::printing::Streams;
 use telegram::{AddressOption, DataTelegramHeader, SapOption};
 use telegram_tx::{TelegramTxResult, send_data_telegram};
 
@@ -16,38 +17,38 @@ fn header() -> DataTelegramHeader {
     }
 }
 
-fn print_replier(replier: AddressOption) {
-    print::text(b" reply-from=");
+fn print_replier(streams: &Streams, replier: AddressOption) {
+    print::text(streams, b" reply-from=");
     match replier {
-        AddressOption::Some(address) => print::byte(address.0),
-        AddressOption::None => print::text(b"-"),
+        AddressOption::Some(address) => print::byte(streams, address.0),
+        AddressOption::None => print::text(streams, b"-"),
     }
 }
 
-fn write(name: &[u8], pdu: &[u8], buf: &mut [u8]) {
-    print::sample(name);
+fn write(streams: &Streams, name: &[u8], pdu: &[u8], buf: &mut [u8]) {
+    print::sample(streams, name);
     match send_data_telegram(header(), pdu, buf) {
         TelegramTxResult::Sent(response) => {
-            print::named_decimal(b" sent=", response.bytes_sent());
-            print_replier(response.expects_reply());
+            print::named_decimal(streams, b" sent=", response.bytes_sent());
+            print_replier(streams, response.expects_reply());
         }
-        TelegramTxResult::Refused(refusal) => print::refused(refusal),
+        TelegramTxResult::Refused(refusal) => print::refused(streams, refusal),
     }
     if 0 < buf.len() {
-        print::named_byte(b" first=", buf[0]);
+        print::named_byte(streams, b" first=", buf[0]);
     }
-    print::end();
+    print::end(streams);
 }
 
 // The longest, and reading it again.
-fn longest() {
+fn longest(streams: &Streams) {
     let mut room = [0xAAu8; 255];
-    write(b"pdu-246", &[7u8; 246], &mut room);
-    reading::read(b"pdu-246-read", &room);
+    write(streams, b"pdu-246", &[7u8; 246], &mut room);
+    reading::read(streams, b"pdu-246-read", &room);
 }
 
-pub(crate) fn samples() {
-    longest();
-    write(b"pdu-247", &[7u8; 247], &mut [0xAAu8; 255]);
-    write(b"pdu-246-in-254", &[7u8; 246], &mut [0xAAu8; 254]);
+pub(crate) fn samples(streams: &Streams) {
+    longest(streams);
+    write(streams, b"pdu-247", &[7u8; 247], &mut [0xAAu8; 255]);
+    write(streams, b"pdu-246-in-254", &[7u8; 246], &mut [0xAAu8; 254]);
 }

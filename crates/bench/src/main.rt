@@ -10,11 +10,13 @@ ghost use Rattle.std.specs.Prelude.{◌≤◌};
 
 use bench_link::Ends;
 use ground::Part;
-use libc::{STDERR_FILENO, STDIN_FILENO, STDOUT_FILENO};
 use line_text::answers::{Answered, Out, flush, flushed, is_error, put_char, put_error};
 use line_text::bytes::find;
-use line_text::printing::{is_readable, print_error};
+use line_text::printing::{
+    Streams, is_readable, print, print_error, print_error_decimal, read_full,
+};
 use line_text::words::{INPUT, Input, LINE_TOO_LONG, UNKNOWN_COMMAND, is_end, number_of};
+use std::io;
 
 // The longest line.
 const LINE: usize = 16384;
@@ -23,34 +25,41 @@ const LINE: usize = 16384;
 const OUT: usize = 65536;
 
 // The commands that no subject's crate has.
-fn own_command(number: usize, input: &Input, at: usize, out: &mut Out, to: usize) -> usize {
+fn own_command(
+    streams: &Streams,
+    number: usize,
+    input: &Input,
+    at: usize,
+    out: &mut Out,
+    to: usize,
+) -> usize {
     match number {
         0 => settings_text::settings(input, at, out, to),
-        1 => lister_text::lister(input, at, out, to),
+        1 => lister_text::lister(streams, input, at, out, to),
         _ => put_error(out, to, UNKNOWN_COMMAND),
     }
 }
 
 // Each subject has names of its own; the first that knows the name answers.
-fn plain_command(input: &Input, at: usize, out: &mut Out, to: usize) -> usize {
+fn plain_command(streams: &Streams, input: &Input, at: usize, out: &mut Out, to: usize) -> usize {
     if let Answered::Until(end) = bench_telegrams::answer(input, at, out, to) {
         return end;
     }
-    if let Answered::Until(end) = bench_stations::answer(input, at, out, to) {
+    if let Answered::Until(end) = bench_stations::answer(streams, input, at, out, to) {
         return end;
     }
-    if let Answered::Until(end) = bench_diagnostics::answer(input, at, out, to) {
+    if let Answered::Until(end) = bench_diagnostics::answer(streams, input, at, out, to) {
         return end;
     }
     let name = number_of(input, at, b"settings lister ");
-    own_command(name.number, input, name.next, out, to)
+    own_command(streams, name.number, input, name.next, out, to)
 }
 
-fn answer(input: &Input, at: usize, mut ends: Ends, out: &mut Out) -> Ends {
+fn answer(streams: &Streams, input: &Input, at: usize, mut ends: Ends, out: &mut Out) -> Ends {
     if bench_link::is_named(input, at) {
         return bench_link::play(input, at, ends, out);
     }
-    ends.to = plain_command(input, at, out, ends.to);
+    ends.to = plain_command(streams, input, at, out, ends.to);
     ends
 }
 
@@ -60,12 +69,19 @@ fn ended(mut ends: Ends, out: &mut Out) -> Ends {
     ends
 }
 
-fn answer_line(input: &Input, at: usize, len: usize, mut ends: Ends, out: &mut Out) -> Ends {
+fn answer_line(
+    streams: &Streams,
+    input: &Input,
+    at: usize,
+    len: usize,
+    mut ends: Ends,
+    out: &mut Out,
+) -> Ends {
     if LINE < len {
         ends.to = put_error(out, ends.to, LINE_TOO_LONG);
         return ends;
     }
-    answer(input, at, ends, out)
+    answer(streams, input, at, ends, out)
 }
 
 // Whether a line gets no answer.
@@ -77,7 +93,7 @@ fn is_passed_over(input: &Input, at: usize) -> bool {
 }
 
 // Tells why the line of a number was answered `error`: the reason is laid behind the answer, up to a line feed.
-fn tell_reason(out: &Out, at: usize, number: usize) {
+fn tell_reason(streams: &Streams, out: &Out, at: usize, number: usize) {
     if OUT < at {
         return;
     }
@@ -86,14 +102,15 @@ fn tell_reason(out: &Out, at: usize, number: usize) {
         start: at,
         len: end - at,
     };
-    print_error(b"bench: line ");
-    io::print_decimal(STDERR_FILENO, number as u64);
-    print_error(b": ");
-    print_error(reason.show(out));
-    print_error(b"\n");
+    print_error(streams, b"bench: line ");
+    print_error_decimal(streams, number);
+    print_error(streams, b": ");
+    print_error(streams, reason.show(out));
+    print_error(streams, b"\n");
 }
 
 fn play_line(
+    streams: &Streams,
     input: &Input,
     at: usize,
     len: usize,
@@ -104,16 +121,16 @@ fn play_line(
     if is_passed_over(input, at) {
         return ends;
     }
-    ends.to = flushed(out, ends.to);
+    ends.to = flushed(streams, out, ends.to);
     let start = ends.to;
-    let after = ended(answer_line(input, at, len, ends, out), out);
+    let after = ended(answer_line(streams, input, at, len, ends, out), out);
     if is_error(out, start) {
-        tell_reason(out, after.to, number);
+        tell_reason(streams, out, after.to, number);
     }
     after
 }
 
-fn run(input: &Input, len: usize, out: &mut Out)
+fn run(streams: &Streams, input: &Input, len: usize, out: &mut Out)
     requires { len ≤ 1048576 }
 {
     let mut ends = bench_link::no_ends();
@@ -121,30 +138,32 @@ fn run(input: &Input, len: usize, out: &mut Out)
     let mut number = 1;
     while at < len {
         let end = find(input, at, b'\n');
-        ends = play_line(input, at, end - at, number, ends, out);
+        ends = play_line(streams, input, at, end - at, number, ends, out);
         at = end + 1;
         number += 1;
     }
-    flush(out, ends.to);
+    flush(streams, out, ends.to);
 }
 
 fn input_buffer() -> Input {
     [0; 1048577]
 }
 
-fn main() {
+fn main(rt: HostRuntime) -> io::Result<()> {
+    let streams = Streams::new(rt.stdin(), rt.stdout(), rt.stderr());
     let mut input = input_buffer();
-    let n = io::read_full(STDIN_FILENO, &mut input);
+    let n = read_full(&streams, &mut input);
     if INPUT < n {
-        io::write_all(STDOUT_FILENO, b"error\n");
-        print_error(b"bench: more than 1,048,576 bytes\n");
-        return;
+        print(&streams, b"error\n");
+        print_error(&streams, b"bench: more than 1,048,576 bytes\n");
+        return streams.end();
     }
-    if !is_readable() {
-        print_error(b"bench: standard input cannot be read\n");
-        return;
+    if !is_readable(&streams) {
+        print_error(&streams, b"bench: standard input cannot be read\n");
+        return streams.end();
     }
     input[n] = b'\n';
-    let mut out = io::large_buffer();
-    run(&input, n, &mut out);
+    let mut out = [0u8; 65536];
+    run(&streams, &input, n, &mut out);
+    streams.end()
 }

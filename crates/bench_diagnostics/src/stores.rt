@@ -4,6 +4,7 @@ use diagnostics::{ExtendedDiagnostics, Filled};
 use line_text::answers::{
     Out, flushed, put_bar, put_bool, put_error, put_name, put_next_hex, put_next_number, put_number,
 };
+use line_text::printing::Streams;
 use line_text::strings::{Bytes, get_hex, get_room, lent, shown};
 use line_text::words::{Input, get_number, is_end};
 
@@ -44,9 +45,9 @@ fn byte_strings_end(input: &Input, from: usize, bytes: &mut Bytes) -> usize {
     at
 }
 
-fn put_filled(out: &mut Out, to: usize, filled: Filled, store: &[u8]) -> usize {
+fn put_filled(streams: &Streams, out: &mut Out, to: usize, filled: Filled, store: &[u8]) -> usize {
     let diag = filled.diag;
-    let room = flushed(out, to);
+    let room = flushed(streams, out, to);
     let len_at = put_name(out, room, b"false true ", filled.filled as usize);
     let store_at = put_next_number(out, len_at, diag.length);
     let end = put_next_hex(out, store_at, store);
@@ -54,6 +55,7 @@ fn put_filled(out: &mut Out, to: usize, filled: Filled, store: &[u8]) -> usize {
 }
 
 fn put_fillings(
+    streams: &Streams,
     input: &Input,
     from: usize,
     bytes: &mut Bytes,
@@ -70,26 +72,33 @@ fn put_fillings(
             return end;
         }
         let filled = diag.fill(store, shown(bytes, word.value));
-        end = put_filled(out, end, filled, store);
+        end = put_filled(streams, out, end, filled, store);
         diag = filled.diag;
         at = word.next;
     }
-    put_walk(out, end, diag, store)
+    put_walk(streams, out, end, diag, store)
 }
 
 // `store ROOM DATA…`
-pub(crate) fn store(input: &Input, at: usize, out: &mut Out, to: usize) -> usize {
+pub(crate) fn store(
+    streams: &Streams,
+    input: &Input,
+    at: usize,
+    out: &mut Out,
+    to: usize,
+) -> usize {
     let room = get_room(input, at);
     let mut bytes = [0u8; 4200];
     let end = byte_strings_end(input, room.next, &mut bytes);
     if !is_end(input, end) {
         return put_error(out, to, end);
     }
-    put_store(input, room.next, &mut bytes, room.value, out, to)
+    put_store(streams, input, room.next, &mut bytes, room.value, out, to)
 }
 
 // The store is the first ROOM bytes of a buffer that is as long as a ROOM may be.
 fn put_store(
+    streams: &Streams,
     input: &Input,
     at: usize,
     bytes: &mut Bytes,
@@ -99,5 +108,5 @@ fn put_store(
 ) -> usize {
     let len = lent(room);
     let mut buffer = [0xAAu8; 1024];
-    put_fillings(input, at, bytes, &mut buffer[..len], out, to)
+    put_fillings(streams, input, at, bytes, &mut buffer[..len], out, to)
 }

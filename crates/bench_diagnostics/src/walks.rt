@@ -2,6 +2,7 @@
 use crate::blocks::put_block;
 use diagnostics::{ExtDiagBlockIter, ExtendedDiagnostics, Found, Step};
 use line_text::answers::{Out, flushed, put_bar, put_error, put_number, put_refusal, put_text};
+use line_text::printing::Streams;
 use line_text::strings::{get_hex, shown};
 use line_text::words::{Input, get_number, is_end};
 
@@ -50,6 +51,7 @@ struct Walked {
 }
 
 fn walk_step(
+    streams: &Streams,
     out: &mut Out,
     to: usize,
     cursor: usize,
@@ -58,7 +60,7 @@ fn walk_step(
 ) -> Walked {
     let iter = ExtDiagBlockIter { cursor };
     let step = iter.next(diag, store);
-    let room = flushed(out, to);
+    let room = flushed(streams, out, to);
     let end = put_step(out, room, step, diag, store);
     let found = step.found;
     if !is_block(found) {
@@ -71,11 +73,17 @@ fn walk_step(
 }
 
 // A step that finds a block always goes on, and within the store. The test of it is what shows that the loop ends.
-pub(crate) fn put_walk(out: &mut Out, to: usize, diag: ExtendedDiagnostics, store: &[u8]) -> usize {
+pub(crate) fn put_walk(
+    streams: &Streams,
+    out: &mut Out,
+    to: usize,
+    diag: ExtendedDiagnostics,
+    store: &[u8],
+) -> usize {
     let mut at = to;
     let mut cursor = 0;
     loop {
-        let walked = walk_step(out, at, cursor, diag, store);
+        let walked = walk_step(streams, out, at, cursor, diag, store);
         at = walked.to;
         if walked.cursor <= cursor {
             return at;
@@ -85,20 +93,20 @@ pub(crate) fn put_walk(out: &mut Out, to: usize, diag: ExtendedDiagnostics, stor
 }
 
 // `diag HEX`: the store is just these bytes.
-pub(crate) fn diag(input: &Input, at: usize, out: &mut Out, to: usize) -> usize {
+pub(crate) fn diag(streams: &Streams, input: &Input, at: usize, out: &mut Out, to: usize) -> usize {
     let mut bytes = [0u8; 4200];
     let store = get_hex(input, at, &mut bytes);
     if !is_end(input, store.next) {
         return put_error(out, to, store.next);
     }
-    put_diag(out, to, shown(&bytes, store.value))
+    put_diag(streams, out, to, shown(&bytes, store.value))
 }
 
-fn put_diag(out: &mut Out, to: usize, store: &[u8]) -> usize {
+fn put_diag(streams: &Streams, out: &mut Out, to: usize, store: &[u8]) -> usize {
     let diag = ExtendedDiagnostics {
         length: store.len(),
     };
-    put_walk(out, to, diag, store)
+    put_walk(streams, out, to, diag, store)
 }
 
 // `step STORE LEN CURSOR`

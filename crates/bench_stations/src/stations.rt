@@ -5,6 +5,7 @@ use line_text::answers::{
     Out, flushed, put_bar, put_bool, put_char, put_error, put_list_end, put_listed, put_name,
     put_next_byte, put_refusal,
 };
+use line_text::printing::Streams;
 use line_text::words::{Input, get_byte, is_end};
 use token_ring::{Changed, LasState, TokenRing};
 
@@ -80,16 +81,23 @@ fn put_answer(out: &mut Out, to: usize, answer: Answer) -> usize {
     }
 }
 
-fn put_changed(out: &mut Out, to: usize, changed: Changed, is_whole: bool) -> usize {
+fn put_changed(
+    streams: &Streams,
+    out: &mut Out,
+    to: usize,
+    changed: Changed,
+    is_whole: bool,
+) -> usize {
     let answer = changed.answer;
     let ring = changed.ring;
-    let room = flushed(out, to);
+    let room = flushed(streams, out, to);
     let answer_at = put_bar(out, room);
     let state_at = put_answer(out, answer_at, answer);
     put_list(out, state_at, ring, is_whole)
 }
 
 fn put_ops(
+    streams: &Streams,
     input: &Input,
     from: usize,
     made: TokenRing,
@@ -107,7 +115,7 @@ fn put_ops(
         }
         let op = word.op;
         let changed = applied(ring, op);
-        end = put_changed(out, end, changed, is_whole);
+        end = put_changed(streams, out, end, changed, is_whole);
         ring = changed.ring;
         at = word.next;
     }
@@ -116,6 +124,7 @@ fn put_ops(
 
 // The list made, and then the ops.
 fn put_made(
+    streams: &Streams,
     input: &Input,
     at: usize,
     made: Changed,
@@ -128,19 +137,27 @@ fn put_made(
     match answer {
         Answer::Done => {
             let end = put_list(out, to, list, is_whole);
-            put_ops(input, at, list, is_whole, out, end)
+            put_ops(streams, input, at, list, is_whole, out, end)
         }
         Answer::Refused(refusal) => put_refusal(out, to, refusal.number()),
     }
 }
 
-pub(crate) fn ring(input: &Input, at: usize, is_whole: bool, out: &mut Out, to: usize) -> usize {
+pub(crate) fn ring(
+    streams: &Streams,
+    input: &Input,
+    at: usize,
+    is_whole: bool,
+    out: &mut Out,
+    to: usize,
+) -> usize {
     let own = get_byte(input, at);
     let end = ops_end(input, own.next);
     if !is_end(input, end) {
         return put_error(out, to, end);
     }
     put_made(
+        streams,
         input,
         own.next,
         TokenRing::new(Address(own.value)),

@@ -7,6 +7,8 @@ use codes::{
     FrameCountBit, FunctionCode, FunctionCodeFound, RequestType, ResponseState, ResponseStatus,
 };
 use line_text::answers::{Out, flush, flushed, put_bool, put_char, put_hex, put_number, put_text};
+use line_text::printing::Streams;
+use std::io;
 
 const BYTES: usize = 256;
 
@@ -43,7 +45,7 @@ fn put_response(out: &mut Out, to: usize, state: ResponseState, status: Response
 }
 
 fn one_more(count: usize) -> usize {
-    std::num::wrapping_add_usize(count, 1)
+    count.wrapping_add(1)
 }
 
 fn put_code(out: &mut Out, to: usize, code: FunctionCode, told: Told) -> Told {
@@ -64,8 +66,8 @@ fn put_code(out: &mut Out, to: usize, code: FunctionCode, told: Told) -> Told {
 }
 
 // The line of a byte.
-fn put_byte(out: &mut Out, b: u8, told: Told) -> Told {
-    let room = flushed(out, told.to);
+fn put_byte(streams: &Streams, out: &mut Out, b: u8, told: Told) -> Told {
+    let room = flushed(streams, out, told.to);
     let byte_at = put_text(out, room, b"byte=");
     let to = put_hex(out, byte_at, &[b]);
     match FunctionCode::from_byte(b) {
@@ -79,7 +81,7 @@ fn put_byte(out: &mut Out, b: u8, told: Told) -> Told {
     }
 }
 
-fn put_bytes(out: &mut Out) -> Told {
+fn put_bytes(streams: &Streams, out: &mut Out) -> Told {
     let mut told = Told {
         to: 0,
         requests: 0,
@@ -88,7 +90,7 @@ fn put_bytes(out: &mut Out) -> Told {
     };
     let mut b = 0;
     while b < BYTES {
-        told = put_byte(out, b as u8, told);
+        told = put_byte(streams, out, b as u8, told);
         b = b + 1;
     }
     told
@@ -104,9 +106,11 @@ fn put_counts(out: &mut Out, told: Told) -> usize {
     put_char(out, behind_none, b'\n')
 }
 
-fn main() {
-    let mut out = io::large_buffer();
-    let told = put_bytes(&mut out);
+fn main(rt: HostRuntime) -> io::Result<()> {
+    let streams = Streams::new(rt.stdin(), rt.stdout(), rt.stderr());
+    let mut out = [0u8; 65536];
+    let told = put_bytes(&streams, &mut out);
     let to = put_counts(&mut out, told);
-    flush(&out, to);
+    flush(&streams, &out, to);
+    streams.end()
 }

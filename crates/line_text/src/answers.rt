@@ -3,11 +3,11 @@
 ghost use Rattle.std.specs.Prelude.{◌≤◌, length};
 
 use crate::bytes::{find, front};
+use crate::printing::{Streams, print};
 use crate::words::NOWHERE;
 use ground::Answer;
-use libc::STDOUT_FILENO;
 
-// As `io::large_buffer` makes it. A lent array asks no proof of its length.
+// A lent array asks no proof of its length.
 pub type Out = [u8; 65536];
 
 // Half of the buffer and more is written out before another piece of an answer.
@@ -20,15 +20,15 @@ pub enum Answered {
     NotNamed,
 }
 
-pub fn flush(out: &Out, to: usize) {
-    io::write_all(STDOUT_FILENO, front(out, to));
+pub fn flush(streams: &Streams, out: &Out, to: usize) {
+    print(streams, front(out, to));
 }
 
-pub fn flushed(out: &Out, to: usize) -> usize {
+pub fn flushed(streams: &Streams, out: &Out, to: usize) -> usize {
     if to < FULL {
         return to;
     }
-    flush(out, to);
+    flush(streams, out, to);
     0
 }
 

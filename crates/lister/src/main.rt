@@ -6,8 +6,9 @@ ghost use Rattle.listing.specs.Answers.{text_in};
 ghost use Rattle.listing.specs.Listing.{listing_room, output_of};
 ghost use Rattle.lister.specs.Leaves.{MoreWithin, InputWithin};
 
-use libc::{STDERR_FILENO, STDIN_FILENO, STDOUT_FILENO};
 use listing::{LISTING_ROOM, Listed};
+use std::io::{Print, Read, Stderr, Stdin, Stdout};
+use std::process::ExitCode;
 
 // One more byte than the lister takes is enough to know that the input is above the limit.
 const INPUT_ROOM: usize = 4097;
@@ -28,28 +29,24 @@ enum Input {
 }
 
 // One read, into what is left of the buffer from a place on.
-fn read_more(buf: &mut [u8], at: usize) -> More
+fn read_more(stdin: &mut Stdin, buf: &mut [u8], at: usize) -> More
     requires { at ≤ length buf.old }
     ensures { MoreWithin result at (length buf.old) }
 {
-    let got = libc::read(STDIN_FILENO, &mut buf[at..]);
-    if got < 0 {
-        return More::Failed;
+    match stdin.read(&mut buf[at..]) {
+        Ok(0) => More::End,
+        Ok(n) => More::Bytes(n),
+        Err(_) => More::Failed,
     }
-    let n = io::count(got, &buf[at..]);
-    if n == 0 {
-        return More::End;
-    }
-    More::Bytes(n)
 }
 
 // Reads until the buffer is full, the input ends or a read fails.
-fn read_input(buf: &mut [u8]) -> Input
+fn read_input(stdin: &mut Stdin, buf: &mut [u8]) -> Input
     ensures { InputWithin result (length buf.old) }
 {
     let mut len = 0;
     while len < buf.len() {
-        let more = read_more(buf, len);
+        let more = read_more(stdin, buf, len);
         match more {
             More::Bytes(n) => {
                 len += n;
@@ -73,23 +70,29 @@ fn put_output(input: &[u8], buf: &mut [u8]) -> Listed
     listing::output(input, buf)
 }
 
-fn print(input: &[u8]) -> bool {
+fn print(stdout: Stdout, input: &[u8]) -> bool {
     let mut text = [0u8; LISTING_ROOM];
     let listed = put_output(input, &mut text);
-    io::write_all(STDOUT_FILENO, listed.text(&text))
+    stdout.write_all(listed.text(&text)).is_ok()
 }
 
-fn main() {
+// Says why the list was not made. Nothing is left to say where standard error cannot be written.
+fn failed(stderr: Stderr, why: &[u8]) -> ExitCode {
+    let _ = stderr.write_all(why);
+    ExitCode::FAILURE
+}
+
+fn main(rt: HostRuntime) -> ExitCode {
     let mut input = [0u8; INPUT_ROOM];
-    let read = read_input(&mut input);
+    let read = read_input(&mut rt.stdin(), &mut input);
     let Input::Bytes(len) = read else {
-        io::write_all(STDERR_FILENO, b"lister: standard input could not be read\n");
-        return;
+        return failed(rt.stderr(), b"lister: standard input could not be read\n");
     };
-    if !print(&input[..len]) {
-        io::write_all(
-            STDERR_FILENO,
+    if !print(rt.stdout(), &input[..len]) {
+        return failed(
+            rt.stderr(),
             b"lister: standard output could not be written\n",
         );
     }
+    ExitCode::SUCCESS
 }

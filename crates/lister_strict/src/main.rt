@@ -7,10 +7,11 @@ ghost use Rattle.listing.specs.Answers.{text_in};
 ghost use Rattle.listing.specs.Listing.{listing_room, output_in};
 ghost use Rattle.telegram_strict.specs.declared.strict.Mode.TheVariants.{Strict};
 
-use libc::{STDIN_FILENO, STDOUT_FILENO};
 use line_text::bytes::front;
-use line_text::printing::{is_readable, print_error};
+use line_text::printing;
+use line_text::printing::{Streams, is_readable, is_written, print_error, read_full};
 use listing::{LISTING_ROOM, Listed};
+use std::io;
 use telegram_strict::Mode;
 
 // One more byte than the lister takes is enough to know that the input is above the limit.
@@ -24,20 +25,29 @@ fn put_output(input: &[u8], buf: &mut [u8]) -> Listed
     listing::output_in(Mode::Strict, input, buf)
 }
 
-fn print(input: &[u8]) -> bool {
+fn print(streams: &Streams, input: &[u8]) -> bool {
     let mut text = [0u8; LISTING_ROOM];
     let listed = put_output(input, &mut text);
-    io::write_all(STDOUT_FILENO, listed.text(&text))
+    printing::print(streams, listed.text(&text));
+    is_written(streams)
 }
 
-fn main() {
+fn main(rt: HostRuntime) -> io::Result<()> {
+    let streams = Streams::new(rt.stdin(), rt.stdout(), rt.stderr());
     let mut input = [0u8; INPUT_ROOM];
-    let len = io::read_full(STDIN_FILENO, &mut input);
-    if !is_readable() {
-        print_error(b"lister_strict: standard input could not be read\n");
-        return;
+    let len = read_full(&streams, &mut input);
+    if !is_readable(&streams) {
+        print_error(
+            &streams,
+            b"lister_strict: standard input could not be read\n",
+        );
+        return streams.end();
     }
-    if !print(front(&input, len)) {
-        print_error(b"lister_strict: standard output could not be written\n");
+    if !print(&streams, front(&input, len)) {
+        print_error(
+            &streams,
+            b"lister_strict: standard output could not be written\n",
+        );
     }
+    streams.end()
 }

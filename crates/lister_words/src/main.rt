@@ -6,11 +6,11 @@ mod words;
 
 use crate::words::put_telegram;
 use ground::Part;
-use libc::STDIN_FILENO;
 use line_text::answers::{Out, flush, flushed, put_char, put_text};
 use line_text::bytes::{find, front};
-use line_text::printing::{is_readable, print_error};
+use line_text::printing::{Streams, is_readable, print_error, read_full};
 use listing::LISTING_ROOM;
+use std::io;
 use telegram::{Deserialized, Telegram};
 
 // One more byte than the lister takes is enough to know that the input is above the limit.
@@ -71,8 +71,15 @@ fn is_telegram(line: &[u8]) -> bool {
 }
 
 // A line of the lister's text, and the telegram's words where it is of one.
-fn put_line(line: &[u8], input: &[u8], at: usize, out: &mut Out, to: usize) -> Told {
-    let room = flushed(out, to);
+fn put_line(
+    streams: &Streams,
+    line: &[u8],
+    input: &[u8],
+    at: usize,
+    out: &mut Out,
+    to: usize,
+) -> Told {
+    let room = flushed(streams, out, to);
     let end = put_text(out, room, line);
     let next = put_char(out, end, b'\n');
     if is_telegram(line) {
@@ -82,7 +89,7 @@ fn put_line(line: &[u8], input: &[u8], at: usize, out: &mut Out, to: usize) -> T
 }
 
 // The text goes out line by line; each ends with a line feed.
-fn put_lines(lines: &[u8], input: &[u8], out: &mut Out) -> usize {
+fn put_lines(streams: &Streams, lines: &[u8], input: &[u8], out: &mut Out) -> usize {
     let mut told = Told { at: 0, to: 0 };
     let mut start = 0;
     while start < lines.len() {
@@ -90,26 +97,31 @@ fn put_lines(lines: &[u8], input: &[u8], out: &mut Out) -> usize {
         if end == lines.len() {
             return told.to;
         }
-        told = put_line(&lines[start..end], input, told.at, out, told.to);
+        told = put_line(streams, &lines[start..end], input, told.at, out, told.to);
         start = end + 1;
     }
     told.to
 }
 
-fn list(input: &[u8]) {
+fn list(streams: &Streams, input: &[u8]) {
     let mut room = [0u8; LISTING_ROOM];
     let listed = listing::output(input, &mut room);
-    let mut out = io::large_buffer();
-    let to = put_lines(listed.text(&room), input, &mut out);
-    flush(&out, to);
+    let mut out = [0u8; 65536];
+    let to = put_lines(streams, listed.text(&room), input, &mut out);
+    flush(streams, &out, to);
 }
 
-fn main() {
+fn main(rt: HostRuntime) -> io::Result<()> {
+    let streams = Streams::new(rt.stdin(), rt.stdout(), rt.stderr());
     let mut input = [0u8; INPUT_ROOM];
-    let len = io::read_full(STDIN_FILENO, &mut input);
-    if !is_readable() {
-        print_error(b"lister_words: standard input could not be read\n");
-        return;
+    let len = read_full(&streams, &mut input);
+    if !is_readable(&streams) {
+        print_error(
+            &streams,
+            b"lister_words: standard input could not be read\n",
+        );
+        return streams.end();
     }
-    list(front(&input, len));
+    list(&streams, front(&input, len));
+    streams.end()
 }

@@ -9,8 +9,9 @@ mod telegrams;
 
 use crate::rounds::{put_events, put_rounds};
 use crate::start::{put_parameters, put_ring, put_stations};
-use libc::STDOUT_FILENO;
 use line_text::bytes::front;
+use line_text::printing::{Streams, print};
+use std::io;
 
 // The capture at the front of the buffer; its length.
 fn put_segment(out: &mut [u8]) -> usize {
@@ -22,8 +23,10 @@ fn put_segment(out: &mut [u8]) -> usize {
     put_rounds(out, more, 12, 24)
 }
 
-fn main() {
-    let mut capture = io::buffer();
+fn main(rt: HostRuntime) -> io::Result<()> {
+    let streams = Streams::new(rt.stdin(), rt.stdout(), rt.stderr());
+    let mut capture = [0u8; 4096];
     let len = put_segment(&mut capture);
-    io::write_all(STDOUT_FILENO, front(&capture, len));
+    print(&streams, front(&capture, len));
+    streams.end()
 }

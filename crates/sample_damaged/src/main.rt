@@ -3,20 +3,23 @@
 #![tactic(auto)]
 
 use ground::Part;
-use libc::{STDIN_FILENO, STDOUT_FILENO};
+use line_text::printing::{Streams, print, read_full};
+use std::io;
 
 // A place beyond the buffer leaves it as it is.
 fn disturb(capture: &mut [u8], at: usize) {
     if at < capture.len() {
         let b = capture[at];
-        capture[at] = std::num::wrapping_add_u8(b, 1);
+        capture[at] = b.wrapping_add(1);
     }
 }
 
-fn main() {
-    let mut capture = io::buffer();
-    let len = io::read_full(STDIN_FILENO, &mut capture);
+fn main(rt: HostRuntime) -> io::Result<()> {
+    let streams = Streams::new(rt.stdin(), rt.stdout(), rt.stderr());
+    let mut capture = [0u8; 4096];
+    let len = read_full(&streams, &mut capture);
     disturb(&mut capture, len / 2);
     let read = Part { start: 0, len };
-    io::write_all(STDOUT_FILENO, read.show(&capture));
+    print(&streams, read.show(&capture));
+    streams.end()
 }

@@ -5,7 +5,8 @@
 
 use codes::consts;
 use ground::Part;
-use libc::{STDIN_FILENO, STDOUT_FILENO};
+use line_text::printing::{Streams, print, read_full};
+use std::io;
 use telegram::{AddressOption, Deserialized, Telegram};
 
 const DRIVE: u8 = 12;
@@ -65,12 +66,14 @@ fn let_through(capture: &mut [u8], len: usize) {
     }
 }
 
-fn main() {
-    let mut capture = io::buffer();
-    let len = io::read_full(STDIN_FILENO, &mut capture);
+fn main(rt: HostRuntime) -> io::Result<()> {
+    let streams = Streams::new(rt.stdin(), rt.stdout(), rt.stderr());
+    let mut capture = [0u8; 4096];
+    let len = read_full(&streams, &mut capture);
     let_through(&mut capture, len);
     let read = Part { start: 0, len };
-    io::write_all(STDOUT_FILENO, read.show(&capture));
-    io::write_all(STDOUT_FILENO, b"\x10\x05\x02\x49\x50\x16");
-    io::write_all(STDOUT_FILENO, b"\x68\x03\x03\x68\x02\x05\x00\x07\x16");
+    print(&streams, read.show(&capture));
+    print(&streams, b"\x10\x05\x02\x49\x50\x16");
+    print(&streams, b"\x68\x03\x03\x68\x02\x05\x00\x07\x16");
+    streams.end()
 }

@@ -8,28 +8,30 @@ ghost use Rattle.link_rules.specs.Rules.{default_tries};
 ghost use Rattle.scenes.specs.Scenes.{accident};
 ghost use Rattle.stage.specs.Rows.{played};
 
+use line_text::printing::Streams;
 use stage::Stage;
 use stage::scenes::{
     close_scene, head_end_restarts, head_end_submits, open_scene, opening_passes, order_passes,
 };
 
-fn steps() -> Stage
+fn steps(streams: &Streams) -> Stage
     ensures { result ≡ played default_tries accident }
 {
     let mut stage = open_scene(
+        streams,
         b"accident",
         b"the head end restarts between two orders, and each order shows its own reply",
     );
-    stage = head_end_submits(stage, b"open-17");
-    stage = opening_passes(stage);
-    stage = order_passes(stage, b"opened-17");
-    stage = head_end_restarts(stage);
-    stage = head_end_submits(stage, b"close-18");
-    stage = opening_passes(stage);
-    stage = order_passes(stage, b"closed-18");
+    stage = head_end_submits(streams, stage, b"open-17");
+    stage = opening_passes(streams, stage);
+    stage = order_passes(streams, stage, b"opened-17");
+    stage = head_end_restarts(streams, stage);
+    stage = head_end_submits(streams, stage, b"close-18");
+    stage = opening_passes(streams, stage);
+    stage = order_passes(streams, stage, b"closed-18");
     stage
 }
 
-pub(crate) fn play() {
-    close_scene(b"accident", steps());
+pub(crate) fn play(streams: &Streams) {
+    close_scene(streams, b"accident", steps(streams));
 }

@@ -6,33 +6,35 @@ ghost use Rattle.std.specs.Prelude.{◌≡◌};
 ghost use Rattle.scenes.specs.Scenes.{cabinet_restart};
 ghost use Rattle.stage.specs.Rows.{played};
 
+use line_text::printing::Streams;
 use stage::Stage;
 use stage::scenes::{
     cabinet_hears, cabinet_restarts, close_scene, head_end_hears_nothing, head_end_submits,
     line_loses, open_scene_with_tries, opening_passes, order_passes,
 };
 
-fn steps() -> Stage
+fn steps(streams: &Streams) -> Stage
     ensures { result ≡ played 2 cabinet_restart }
 {
     let mut stage = open_scene_with_tries(
+        streams,
         b"cabinet_restart",
         b"the cabinet restarts between opening and order, and takes orders again once the link is opened anew",
         2,
     );
-    stage = head_end_submits(stage, b"open-17");
-    stage = opening_passes(stage);
-    stage = line_loses(stage);
-    stage = cabinet_restarts(stage);
-    stage = head_end_hears_nothing(stage);
-    stage = cabinet_hears(stage);
-    stage = head_end_hears_nothing(stage);
-    stage = head_end_submits(stage, b"open-18");
-    stage = opening_passes(stage);
-    stage = order_passes(stage, b"opened-18");
+    stage = head_end_submits(streams, stage, b"open-17");
+    stage = opening_passes(streams, stage);
+    stage = line_loses(streams, stage);
+    stage = cabinet_restarts(streams, stage);
+    stage = head_end_hears_nothing(streams, stage);
+    stage = cabinet_hears(streams, stage);
+    stage = head_end_hears_nothing(streams, stage);
+    stage = head_end_submits(streams, stage, b"open-18");
+    stage = opening_passes(streams, stage);
+    stage = order_passes(streams, stage, b"opened-18");
     stage
 }
 
-pub(crate) fn play() {
-    close_scene(b"cabinet_restart", steps());
+pub(crate) fn play(streams: &Streams) {
+    close_scene(streams, b"cabinet_restart", steps(streams));
 }

@@ -5,34 +5,36 @@ ghost use Rattle.std.specs.Prelude.{◌≡◌};
 ghost use Rattle.scenes.specs.Scenes.{dead_line};
 ghost use Rattle.stage.specs.Rows.{played};
 
+use line_text::printing::Streams;
 use stage::Stage;
 use stage::scenes::{
     close_scene, head_end_hears_nothing, head_end_submits, line_loses, open_scene_with_tries,
     opening_passes,
 };
 
-fn steps() -> Stage
+fn steps(streams: &Streams) -> Stage
     ensures { result ≡ played 2 dead_line }
 {
     let mut stage = open_scene_with_tries(
+        streams,
         b"dead_line",
         b"the line is dead, then lives for one opening and dies again",
         2,
     );
-    stage = head_end_submits(stage, b"open-17");
-    stage = line_loses(stage);
-    stage = head_end_hears_nothing(stage);
-    stage = line_loses(stage);
-    stage = head_end_hears_nothing(stage);
-    stage = head_end_submits(stage, b"open-18");
-    stage = opening_passes(stage);
-    stage = line_loses(stage);
-    stage = head_end_hears_nothing(stage);
-    stage = line_loses(stage);
-    stage = head_end_hears_nothing(stage);
+    stage = head_end_submits(streams, stage, b"open-17");
+    stage = line_loses(streams, stage);
+    stage = head_end_hears_nothing(streams, stage);
+    stage = line_loses(streams, stage);
+    stage = head_end_hears_nothing(streams, stage);
+    stage = head_end_submits(streams, stage, b"open-18");
+    stage = opening_passes(streams, stage);
+    stage = line_loses(streams, stage);
+    stage = head_end_hears_nothing(streams, stage);
+    stage = line_loses(streams, stage);
+    stage = head_end_hears_nothing(streams, stage);
     stage
 }
 
-pub(crate) fn play() {
-    close_scene(b"dead_line", steps());
+pub(crate) fn play(streams: &Streams) {
+    close_scene(streams, b"dead_line", steps(streams));
 }

@@ -6,30 +6,32 @@ ghost use Rattle.link_rules.specs.Rules.{default_tries};
 ghost use Rattle.scenes.specs.Scenes.{five_orders};
 ghost use Rattle.stage.specs.Rows.{played};
 
+use line_text::printing::Streams;
 use stage::Stage;
 use stage::scenes::{close_scene, head_end_submits, open_scene, opening_passes, order_passes};
 
-fn steps() -> Stage
+fn steps(streams: &Streams) -> Stage
     ensures { result ≡ played default_tries five_orders }
 {
     let mut stage = open_scene(
+        streams,
         b"five_orders",
         b"five orders in a row, the third and its reply of 246 bytes",
     );
-    stage = head_end_submits(stage, b"open-17");
-    stage = opening_passes(stage);
-    stage = order_passes(stage, b"opened-17");
-    stage = head_end_submits(stage, b"close-18");
-    stage = order_passes(stage, b"closed-18");
-    stage = head_end_submits(stage, &[b'T'; 246]);
-    stage = order_passes(stage, &[b't'; 246]);
-    stage = head_end_submits(stage, b"open-20");
-    stage = order_passes(stage, b"opened-20");
-    stage = head_end_submits(stage, b"?");
-    stage = order_passes(stage, b"");
+    stage = head_end_submits(streams, stage, b"open-17");
+    stage = opening_passes(streams, stage);
+    stage = order_passes(streams, stage, b"opened-17");
+    stage = head_end_submits(streams, stage, b"close-18");
+    stage = order_passes(streams, stage, b"closed-18");
+    stage = head_end_submits(streams, stage, &[b'T'; 246]);
+    stage = order_passes(streams, stage, &[b't'; 246]);
+    stage = head_end_submits(streams, stage, b"open-20");
+    stage = order_passes(streams, stage, b"opened-20");
+    stage = head_end_submits(streams, stage, b"?");
+    stage = order_passes(streams, stage, b"");
     stage
 }
 
-pub(crate) fn play() {
-    close_scene(b"five_orders", steps());
+pub(crate) fn play(streams: &Streams) {
+    close_scene(streams, b"five_orders", steps(streams));
 }

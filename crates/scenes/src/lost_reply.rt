@@ -6,30 +6,32 @@ ghost use Rattle.link_rules.specs.Rules.{default_tries};
 ghost use Rattle.scenes.specs.Scenes.{lost_reply};
 ghost use Rattle.stage.specs.Rows.{played};
 
+use line_text::printing::Streams;
 use stage::Stage;
 use stage::scenes::{
     cabinet_answers, cabinet_hears, close_scene, head_end_hears, head_end_hears_nothing,
     head_end_submits, line_loses, open_scene, opening_passes,
 };
 
-fn steps() -> Stage
+fn steps(streams: &Streams) -> Stage
     ensures { result ≡ played default_tries lost_reply }
 {
     let mut stage = open_scene(
+        streams,
         b"lost_reply",
         b"the first reply is lost, and the order sent again is not carried out again",
     );
-    stage = head_end_submits(stage, b"open-17");
-    stage = opening_passes(stage);
-    stage = cabinet_hears(stage);
-    stage = cabinet_answers(stage, b"opened-17");
-    stage = line_loses(stage);
-    stage = head_end_hears_nothing(stage);
-    stage = cabinet_hears(stage);
-    stage = head_end_hears(stage);
+    stage = head_end_submits(streams, stage, b"open-17");
+    stage = opening_passes(streams, stage);
+    stage = cabinet_hears(streams, stage);
+    stage = cabinet_answers(streams, stage, b"opened-17");
+    stage = line_loses(streams, stage);
+    stage = head_end_hears_nothing(streams, stage);
+    stage = cabinet_hears(streams, stage);
+    stage = head_end_hears(streams, stage);
     stage
 }
 
-pub(crate) fn play() {
-    close_scene(b"lost_reply", steps());
+pub(crate) fn play(streams: &Streams) {
+    close_scene(streams, b"lost_reply", steps(streams));
 }

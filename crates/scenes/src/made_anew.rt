@@ -7,32 +7,34 @@ ghost use Rattle.link_rules.specs.Rules.{default_tries};
 ghost use Rattle.scenes.specs.Scenes.{made_anew};
 ghost use Rattle.stage.specs.Rows.{played};
 
+use line_text::printing::Streams;
 use stage::Stage;
 use stage::scenes::{
     cabinet_answers, cabinet_hears, cabinet_made_anew, close_scene, head_end_hears,
     head_end_restarts, head_end_submits, open_scene, opening_passes, order_passes,
 };
 
-fn steps() -> Stage
+fn steps(streams: &Streams) -> Stage
     ensures { result ≡ played default_tries made_anew }
 {
     let mut stage = open_scene(
+        streams,
         b"made_anew",
         b"each end's record is made anew while a telegram is in flight: the first order is carried out once and never reported",
     );
-    stage = head_end_submits(stage, b"open-17");
-    stage = opening_passes(stage);
-    stage = head_end_restarts(stage);
-    stage = cabinet_hears(stage);
-    stage = cabinet_answers(stage, b"opened-17");
-    stage = head_end_hears(stage);
-    stage = head_end_submits(stage, b"open-18");
-    stage = cabinet_made_anew(stage);
-    stage = opening_passes(stage);
-    stage = order_passes(stage, b"opened-18");
+    stage = head_end_submits(streams, stage, b"open-17");
+    stage = opening_passes(streams, stage);
+    stage = head_end_restarts(streams, stage);
+    stage = cabinet_hears(streams, stage);
+    stage = cabinet_answers(streams, stage, b"opened-17");
+    stage = head_end_hears(streams, stage);
+    stage = head_end_submits(streams, stage, b"open-18");
+    stage = cabinet_made_anew(streams, stage);
+    stage = opening_passes(streams, stage);
+    stage = order_passes(streams, stage, b"opened-18");
     stage
 }
 
-pub(crate) fn play() {
-    close_scene(b"made_anew", steps());
+pub(crate) fn play(streams: &Streams) {
+    close_scene(streams, b"made_anew", steps(streams));
 }

@@ -12,9 +12,9 @@ mod restart_in_opening;
 mod restart_in_order;
 mod slow_cabinet;
 
-use libc::{STDERR_FILENO, STDIN_FILENO};
 use line_text::bytes::{find, front};
-use line_text::printing::{is_readable, print};
+use line_text::printing::{Streams, is_readable, print, print_error, read_full};
+use std::io;
 
 // The longest input.
 const NAMES: usize = 1024;
@@ -27,54 +27,54 @@ fn is_name(line: &[u8], name: &[u8]) -> bool {
     }
 }
 
-fn no_scene(name: &[u8]) {
-    print(b"error=no-scene name=");
-    print(name);
-    print(b"\n");
+fn no_scene(streams: &Streams, name: &[u8]) {
+    print(streams, b"error=no-scene name=");
+    print(streams, name);
+    print(streams, b"\n");
 }
 
-fn play(name: &[u8]) {
+fn play(streams: &Streams, name: &[u8]) {
     if is_name(name, b"accident") {
-        return accident::play();
+        return accident::play(streams);
     }
     if is_name(name, b"lost_reply") {
-        return lost_reply::play();
+        return lost_reply::play(streams);
     }
     if is_name(name, b"cabinet_restart") {
-        return cabinet_restart::play();
+        return cabinet_restart::play(streams);
     }
     if is_name(name, b"five_orders") {
-        return five_orders::play();
+        return five_orders::play(streams);
     }
     if is_name(name, b"dead_line") {
-        return dead_line::play();
+        return dead_line::play(streams);
     }
     if is_name(name, b"restart_in_opening") {
-        return restart_in_opening::play();
+        return restart_in_opening::play(streams);
     }
     if is_name(name, b"restart_in_order") {
-        return restart_in_order::play();
+        return restart_in_order::play(streams);
     }
     if is_name(name, b"made_anew") {
-        return made_anew::play();
+        return made_anew::play(streams);
     }
     if is_name(name, b"slow_cabinet") {
-        return slow_cabinet::play();
+        return slow_cabinet::play(streams);
     }
-    no_scene(name)
+    no_scene(streams, name)
 }
 
-fn play_line(line: &[u8]) {
+fn play_line(streams: &Streams, line: &[u8]) {
     if 0 < line.len() {
-        play(line);
+        play(streams, line);
     }
 }
 
-fn run(names: &[u8]) {
+fn run(streams: &Streams, names: &[u8]) {
     let mut at = 0;
     while at < names.len() {
         let end = find(names, at, b'\n');
-        play_line(&names[at..end]);
+        play_line(streams, &names[at..end]);
         if end == names.len() {
             return;
         }
@@ -82,16 +82,18 @@ fn run(names: &[u8]) {
     }
 }
 
-fn main() {
+fn main(rt: HostRuntime) -> io::Result<()> {
+    let streams = Streams::new(rt.stdin(), rt.stdout(), rt.stderr());
     let mut names = [0u8; 1025];
-    let n = io::read_full(STDIN_FILENO, &mut names);
+    let n = read_full(&streams, &mut names);
     if NAMES < n {
-        print(b"error=more-than-1024-bytes\n");
-        return;
+        print(&streams, b"error=more-than-1024-bytes\n");
+        return streams.end();
     }
-    if !is_readable() {
-        io::write_all(STDERR_FILENO, b"scenes: standard input cannot be read\n");
-        return;
+    if !is_readable(&streams) {
+        print_error(&streams, b"scenes: standard input cannot be read\n");
+        return streams.end();
     }
-    run(front(&names, n));
+    run(&streams, front(&names, n));
+    streams.end()
 }

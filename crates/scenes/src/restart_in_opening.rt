@@ -8,29 +8,31 @@ ghost use Rattle.link_rules.specs.Rules.{default_tries};
 ghost use Rattle.scenes.specs.Scenes.{restart_in_opening};
 ghost use Rattle.stage.specs.Rows.{played};
 
+use line_text::printing::Streams;
 use stage::Stage;
 use stage::scenes::{
     cabinet_hears, close_scene, head_end_calls_restart, head_end_hears, head_end_submits,
     open_scene, opening_passes, order_passes,
 };
 
-fn steps() -> Stage
+fn steps(streams: &Streams) -> Stage
     ensures { result ≡ played default_tries restart_in_opening }
 {
     let mut stage = open_scene(
+        streams,
         b"restart_in_opening",
         b"the head end restarts while its opening is in flight: the order is not sent, and never carried out",
     );
-    stage = head_end_submits(stage, b"open-17");
-    stage = head_end_calls_restart(stage);
-    stage = cabinet_hears(stage);
-    stage = head_end_hears(stage);
-    stage = head_end_submits(stage, b"open-18");
-    stage = opening_passes(stage);
-    stage = order_passes(stage, b"opened-18");
+    stage = head_end_submits(streams, stage, b"open-17");
+    stage = head_end_calls_restart(streams, stage);
+    stage = cabinet_hears(streams, stage);
+    stage = head_end_hears(streams, stage);
+    stage = head_end_submits(streams, stage, b"open-18");
+    stage = opening_passes(streams, stage);
+    stage = order_passes(streams, stage, b"opened-18");
     stage
 }
 
-pub(crate) fn play() {
-    close_scene(b"restart_in_opening", steps());
+pub(crate) fn play(streams: &Streams) {
+    close_scene(streams, b"restart_in_opening", steps(streams));
 }

@@ -11,32 +11,34 @@ ghost use Rattle.std.specs.Prelude.{◌≡◌};
 ghost use Rattle.scenes.specs.Scenes.{slow_cabinet};
 ghost use Rattle.stage.specs.Rows.{played};
 
+use line_text::printing::Streams;
 use stage::Stage;
 use stage::scenes::{
     cabinet_answers, cabinet_hears, close_scene, head_end_hears, head_end_hears_nothing,
     head_end_submits, open_scene_with_tries, opening_passes,
 };
 
-fn steps() -> Stage
+fn steps(streams: &Streams) -> Stage
     ensures { result ≡ played 1 slow_cabinet }
 {
     let mut stage = open_scene_with_tries(
+        streams,
         b"slow_cabinet",
         b"the application answers the first order when the second is handed up; document 01 allows it: the second is confirmed with the first one's reply",
         1,
     );
-    stage = head_end_submits(stage, b"open-17");
-    stage = opening_passes(stage);
-    stage = cabinet_hears(stage);
-    stage = head_end_hears_nothing(stage);
-    stage = head_end_submits(stage, b"close-18");
-    stage = opening_passes(stage);
-    stage = cabinet_hears(stage);
-    stage = cabinet_answers(stage, b"opened-17");
-    stage = head_end_hears(stage);
+    stage = head_end_submits(streams, stage, b"open-17");
+    stage = opening_passes(streams, stage);
+    stage = cabinet_hears(streams, stage);
+    stage = head_end_hears_nothing(streams, stage);
+    stage = head_end_submits(streams, stage, b"close-18");
+    stage = opening_passes(streams, stage);
+    stage = cabinet_hears(streams, stage);
+    stage = cabinet_answers(streams, stage, b"opened-17");
+    stage = head_end_hears(streams, stage);
     stage
 }
 
-pub(crate) fn play() {
-    close_scene(b"slow_cabinet", steps());
+pub(crate) fn play(streams: &Streams) {
+    close_scene(streams, b"slow_cabinet", steps(streams));
 }

@@ -15,8 +15,9 @@ use exports_guarded::guarded_responder::{
 };
 use ground::Part;
 use line_text::bytes::front;
-use line_text::printing::{print, print_number};
+use line_text::printing::{Streams, print, print_number};
 use stage::telling::{print_bytes, print_sent};
+use std::io;
 
 #[derive(Clone, Copy)]
 struct Plant {
@@ -38,35 +39,35 @@ fn part_of(heard: &[u8], start: usize, len: usize) -> &[u8] {
     part.show(heard)
 }
 
-fn print_head_end(code: u8, told: [usize; 3], heard: &[u8], line: &[u8]) {
+fn print_head_end(streams: &Streams, code: u8, told: [usize; 3], heard: &[u8], line: &[u8]) {
     match code {
-        102 => print_sent(front(line, told[0])),
+        102 => print_sent(streams, front(line, told[0])),
         103 => {
-            print_number(b"answer=confirmed tries=", small(told[2]));
-            print_bytes(b" reply=", part_of(heard, told[0], told[1]));
+            print_number(streams, b"answer=confirmed tries=", small(told[2]));
+            print_bytes(streams, b" reply=", part_of(heard, told[0], told[1]));
         }
         105 => {
-            print_number(b"answer=unknown tries=", small(told[2]));
-            print(b"\n");
+            print_number(streams, b"answer=unknown tries=", small(told[2]));
+            print(streams, b"\n");
         }
         _ => {
-            print_number(b"answer=code-", code);
-            print(b"\n");
+            print_number(streams, b"answer=code-", code);
+            print(streams, b"\n");
         }
     }
 }
 
-fn print_cabinet(code: u8, told: [usize; 3], heard: &[u8], line: &[u8]) {
+fn print_cabinet(streams: &Streams, code: u8, told: [usize; 3], heard: &[u8], line: &[u8]) {
     match code {
-        102 => print_sent(front(line, told[0])),
+        102 => print_sent(streams, front(line, told[0])),
         106 => {
-            print_number(b"answer=handed-up number=", small(told[2]));
-            print_bytes(b" order=", part_of(heard, told[0], told[1]));
+            print_number(streams, b"answer=handed-up number=", small(told[2]));
+            print_bytes(streams, b" order=", part_of(heard, told[0], told[1]));
         }
-        21 => print(b"answer=refused-21\n"),
+        21 => print(streams, b"answer=refused-21\n"),
         _ => {
-            print_number(b"answer=code-", code);
-            print(b"\n");
+            print_number(streams, b"answer=code-", code);
+            print(streams, b"\n");
         }
     }
 }
@@ -127,8 +128,8 @@ fn with_cabinet(
     }
 }
 
-fn head_end_submits(plant: Plant, now: usize, order: &[u8]) -> Plant {
-    print_bytes(b"\nwho=head-end call=submit order=", order);
+fn head_end_submits(streams: &Streams, plant: Plant, now: usize, order: &[u8]) -> Plant {
+    print_bytes(streams, b"\nwho=head-end call=submit order=", order);
     let mut state = plant.head_end;
     let mut last = plant.last;
     let mut line = plant.line;
@@ -136,23 +137,23 @@ fn head_end_submits(plant: Plant, now: usize, order: &[u8]) -> Plant {
     let code = koy_guarded_initiator_submit(
         &mut state, &mut last, now, order, &mut line, &mut told,
     );
-    print_head_end(code, told, b"", &line);
+    print_head_end(streams, code, told, b"", &line);
     with_head_end(plant, state, last, line, told[0])
 }
 
-fn head_end_hears_nothing(plant: Plant, now: usize) -> Plant {
-    print(b"\nwho=head-end call=silence\n");
+fn head_end_hears_nothing(streams: &Streams, plant: Plant, now: usize) -> Plant {
+    print(streams, b"\nwho=head-end call=silence\n");
     let mut state = plant.head_end;
     let mut last = plant.last;
     let mut line = plant.line;
     let mut told = [0usize; 3];
     let code = koy_guarded_initiator_silence(&mut state, &mut last, now, &mut line, &mut told);
-    print_head_end(code, told, b"", &line);
+    print_head_end(streams, code, told, b"", &line);
     with_head_end(plant, state, last, line, told[0])
 }
 
-fn head_end_hears(plant: Plant, now: usize) -> Plant {
-    print(b"\nwho=head-end call=hear\n");
+fn head_end_hears(streams: &Streams, plant: Plant, now: usize) -> Plant {
+    print(streams, b"\nwho=head-end call=hear\n");
     let mut state = plant.head_end;
     let mut last = plant.last;
     let heard = plant.line;
@@ -167,12 +168,12 @@ fn head_end_hears(plant: Plant, now: usize) -> Plant {
         &mut line,
         &mut told,
     );
-    print_head_end(code, told, front(&heard, plant.len), &line);
+    print_head_end(streams, code, told, front(&heard, plant.len), &line);
     with_head_end(plant, state, last, line, told[0])
 }
 
-fn cabinet_hears(plant: Plant, now: usize) -> Plant {
-    print(b"\nwho=cabinet call=hear\n");
+fn cabinet_hears(streams: &Streams, plant: Plant, now: usize) -> Plant {
+    print(streams, b"\nwho=cabinet call=hear\n");
     let mut state = plant.cabinet;
     let mut guard = plant.guard;
     let heard = plant.line;
@@ -187,14 +188,20 @@ fn cabinet_hears(plant: Plant, now: usize) -> Plant {
         &mut line,
         &mut told,
     );
-    print_cabinet(code, told, front(&heard, plant.len), &line);
+    print_cabinet(streams, code, told, front(&heard, plant.len), &line);
     with_cabinet(plant, state, guard, line, told[0])
 }
 
 // The application answers the order of this number. A refused call leaves the line as it is.
-fn cabinet_answers(plant: Plant, now: usize, number: usize, reply: &[u8]) -> Plant {
-    print_number(b"\nwho=cabinet call=answer number=", small(number));
-    print_bytes(b" reply=", reply);
+fn cabinet_answers(
+    streams: &Streams,
+    plant: Plant,
+    now: usize,
+    number: usize,
+    reply: &[u8],
+) -> Plant {
+    print_number(streams, b"\nwho=cabinet call=answer number=", small(number));
+    print_bytes(streams, b" reply=", reply);
     let mut state = plant.cabinet;
     let mut guard = plant.guard;
     let mut line = plant.line;
@@ -202,26 +209,29 @@ fn cabinet_answers(plant: Plant, now: usize, number: usize, reply: &[u8]) -> Pla
     let code = koy_guarded_responder_answer(
         &mut state, &mut guard, number, now, reply, &mut line, &mut told,
     );
-    print_cabinet(code, told, b"", &line);
+    print_cabinet(streams, code, told, b"", &line);
     with_cabinet(plant, state, guard, line, told[0])
 }
 
-fn main() {
+fn main(rt: HostRuntime) -> io::Result<()> {
+    let streams = Streams::new(rt.stdin(), rt.stdout(), rt.stderr());
     print(
+        &streams,
         b"scene=slow_cabinet_by_number tries=1\nabout=the application answers the first order when the second is handed up, by its number: refused, and the second is confirmed with its own reply\n",
     );
     let mut plant = made();
-    plant = head_end_submits(plant, 1, b"open-17");
-    plant = cabinet_hears(plant, 2);
-    plant = head_end_hears(plant, 3);
-    plant = cabinet_hears(plant, 4);
-    plant = head_end_hears_nothing(plant, 5);
-    plant = head_end_submits(plant, 6, b"close-18");
-    plant = cabinet_hears(plant, 7);
-    plant = head_end_hears(plant, 8);
-    plant = cabinet_hears(plant, 9);
-    plant = cabinet_answers(plant, 10, 1, b"opened-17");
-    plant = cabinet_answers(plant, 11, 2, b"closed-18");
-    head_end_hears(plant, 12);
-    print(b"\nscene=slow_cabinet_by_number\n");
+    plant = head_end_submits(&streams, plant, 1, b"open-17");
+    plant = cabinet_hears(&streams, plant, 2);
+    plant = head_end_hears(&streams, plant, 3);
+    plant = cabinet_hears(&streams, plant, 4);
+    plant = head_end_hears_nothing(&streams, plant, 5);
+    plant = head_end_submits(&streams, plant, 6, b"close-18");
+    plant = cabinet_hears(&streams, plant, 7);
+    plant = head_end_hears(&streams, plant, 8);
+    plant = cabinet_hears(&streams, plant, 9);
+    plant = cabinet_answers(&streams, plant, 10, 1, b"opened-17");
+    plant = cabinet_answers(&streams, plant, 11, 2, b"closed-18");
+    head_end_hears(&streams, plant, 12);
+    print(&streams, b"\nscene=slow_cabinet_by_number\n");
+    streams.end()
 }

@@ -4,23 +4,24 @@ use crate::state::Stage;
 use ground::{Part, Refusal};
 use initiator::InitiatorAnswer;
 use line_text::bytes::{find, front};
+use line_text::printing::Streams;
 pub(crate) use line_text::printing::{print, print_number};
 use responder::ResponderAnswer;
 use text::put_hex;
 
 // In hexadecimal. No telegram of the link has more than 255 bytes; a longer order or reply, which the calls refuse, is not spelt out.
-fn print_hex(bytes: &[u8]) {
+fn print_hex(streams: &Streams, bytes: &[u8]) {
     if bytes.len() == 0 {
-        print(b"-");
+        print(streams, b"-");
         return;
     }
     if 255 < bytes.len() {
-        print(b"above-255-bytes");
+        print(streams, b"above-255-bytes");
         return;
     }
     let mut out = [0u8; 510];
     let to = put_hex(&mut out, 0, bytes);
-    print(front(&out, to));
+    print(streams, front(&out, to));
 }
 
 // A byte as a sign that can be printed and ends no word.
@@ -41,101 +42,116 @@ fn put_signs(out: &mut [u8], bytes: &[u8]) -> usize {
     to
 }
 
-fn print_text(bytes: &[u8]) {
+fn print_text(streams: &Streams, bytes: &[u8]) {
     if bytes.len() == 0 {
-        print(b"-");
+        print(streams, b"-");
         return;
     }
     if 255 < bytes.len() {
-        print(b"-");
+        print(streams, b"-");
         return;
     }
     let mut out = [0u8; 255];
     let to = put_signs(&mut out, bytes);
-    print(front(&out, to));
+    print(streams, front(&out, to));
 }
 
 // An order or a reply behind its key, as bytes and as text.
-pub fn print_bytes(key: &[u8], bytes: &[u8]) {
-    print(key);
-    print_hex(bytes);
-    print(b" text=");
-    print_text(bytes);
-    print(b"\n");
+pub fn print_bytes(streams: &Streams, key: &[u8], bytes: &[u8]) {
+    print(streams, key);
+    print_hex(streams, bytes);
+    print(streams, b" text=");
+    print_text(streams, bytes);
+    print(streams, b"\n");
 }
 
 // Of a listing the line between `bytes` and `end`: that of its first telegram.
-fn print_second_line(listing: &[u8]) {
+fn print_second_line(streams: &Streams, listing: &[u8]) {
     let first = find(listing, 0, b'\n');
     if listing.len() <= first {
         return;
     }
     let start = first + 1;
     let end = find(listing, start, b'\n');
-    print(&listing[start..end]);
-    print(b"\n");
+    print(streams, &listing[start..end]);
+    print(streams, b"\n");
 }
 
 // A telegram as the lister names it.
-fn print_listed(telegram: &[u8]) {
+fn print_listed(streams: &Streams, telegram: &[u8]) {
     // The three lines of one telegram, of which none is longer than 80 bytes.
     let mut text = [0u8; 240];
     let listed = listing::list(telegram, &mut text);
-    print_second_line(listed.text(&text));
+    print_second_line(streams, listed.text(&text));
 }
 
-pub fn print_sent(telegram: &[u8]) {
-    print(b"answer=sent telegram=");
-    print_hex(telegram);
-    print(b"\n");
-    print_listed(telegram);
+pub fn print_sent(streams: &Streams, telegram: &[u8]) {
+    print(streams, b"answer=sent telegram=");
+    print_hex(streams, telegram);
+    print(streams, b"\n");
+    print_listed(streams, telegram);
 }
 
 // The telegram that a call wrote.
-fn print_written(after: Stage) {
+fn print_written(streams: &Streams, after: Stage) {
     let line = after.line;
-    print_sent(front(&line, after.len));
+    print_sent(streams, front(&line, after.len));
 }
 
 // A part of the telegram that a call heard, behind its key.
-fn print_heard(key: &[u8], part: Part, before: Stage) {
+fn print_heard(streams: &Streams, key: &[u8], part: Part, before: Stage) {
     let line = before.line;
     let heard = front(&line, before.len);
-    print_bytes(key, part.show(heard));
+    print_bytes(streams, key, part.show(heard));
 }
 
-fn print_refused(refusal: Refusal) {
-    print_number(b"answer=refused-", refusal.number());
-    print(b"\n");
+fn print_refused(streams: &Streams, refusal: Refusal) {
+    print_number(streams, b"answer=refused-", refusal.number());
+    print(streams, b"\n");
 }
 
 // An outcome that shows no reply, with its tries.
-fn print_outcome(key: &[u8], tries: u8) {
-    print_number(key, tries);
-    print(b"\n");
+fn print_outcome(streams: &Streams, key: &[u8], tries: u8) {
+    print_number(streams, key, tries);
+    print(streams, b"\n");
 }
 
 // The head end's answer, between the stage before the call and the one after it.
-pub(crate) fn print_initiator_answer(answer: InitiatorAnswer, before: Stage, after: Stage) {
+pub(crate) fn print_initiator_answer(
+    streams: &Streams,
+    answer: InitiatorAnswer,
+    before: Stage,
+    after: Stage,
+) {
     match answer {
-        InitiatorAnswer::Sent(_) => print_written(after),
+        InitiatorAnswer::Sent(_) => print_written(streams, after),
         InitiatorAnswer::Confirmed(reply, tries) => {
-            print_number(b"answer=confirmed tries=", tries);
-            print_heard(b" reply=", reply, before);
+            print_number(streams, b"answer=confirmed tries=", tries);
+            print_heard(streams, b" reply=", reply, before);
         }
-        InitiatorAnswer::NotSent(tries) => print_outcome(b"answer=not-sent tries=", tries),
-        InitiatorAnswer::Unknown(tries) => print_outcome(b"answer=unknown tries=", tries),
-        InitiatorAnswer::Nothing => print(b"answer=nothing\n"),
-        InitiatorAnswer::Refused(refusal) => print_refused(refusal),
+        InitiatorAnswer::NotSent(tries) => print_outcome(streams, b"answer=not-sent tries=", tries),
+        InitiatorAnswer::Unknown(tries) => print_outcome(streams, b"answer=unknown tries=", tries),
+        InitiatorAnswer::Nothing => print(streams, b"answer=nothing\n"),
+        InitiatorAnswer::Refused(refusal) => print_refused(streams, refusal),
     }
 }
 
 // The cabinet's answer.
-pub(crate) fn print_responder_answer(answer: ResponderAnswer, before: Stage, after: Stage) {
+pub(crate) fn print_responder_answer(
+    streams: &Streams,
+    answer: ResponderAnswer,
+    before: Stage,
+    after: Stage,
+) {
     match answer {
-        ResponderAnswer::Sent(_) => print_written(after),
-        ResponderAnswer::HandUp(order) => print_heard(b"answer=handed-up order=", order, before),
-        ResponderAnswer::Nothing => print(b"answer=nothing\n"),
-        ResponderAnswer::Refused(refusal) => print_refused(refusal),
+        ResponderAnswer::Sent(_) => print_written(streams, after),
+        ResponderAnswer::HandUp(order) => print_heard(
+            streams,
+            b"answer=handed-up order=",
+            order,
+            before,
+        ),
+        ResponderAnswer::Nothing => print(streams, b"answer=nothing\n"),
+        ResponderAnswer::Refused(refusal) => print_refused(streams, refusal),
     }
 }

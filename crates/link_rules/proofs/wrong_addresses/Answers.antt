@@ -12,5 +12,4 @@ returns-then-link-gt125-2 c = sym (peer_above _ (omega (arith, c.if-link-gt125.f
 
 pub returns : goal.returns
 returns c =
- 
     sym (both_stations _ (omega (arith, c.if-link-gt125.false)) (omega (arith, c.if-link-gt125-2.false)))

@@ -5,7 +5,6 @@ use Rattle.ground.proofs.buffers.copy_to_front.Goals as goal
 
 pub returns-then-bytes-buffer : goal.returns-then-bytes-buffer
 returns-then-bytes-buffer c =
- 
     c.copy.ensures ∙ sym (copied_fits _ _ c.if-bytes-buffer.true)
 
 pub returns-else-bytes-buffer : goal.returns-else-bytes-buffer

@@ -16,7 +16,7 @@ fn text(path: &str) -> String {
 
 fn rattle_source() -> String {
     let folders = ["telegrams", "strict", "stations", "diagnostics", "settings", "link", "guarded"]
-        .map(|name| Path::new(env!("CARGO_MANIFEST_DIR")).join(format!("../../crates/exports_{name}/src")));
+        .map(|name| Path::new(env!("CARGO_MANIFEST_DIR")).join(format!("../../crates/exports_{name}_c/src")));
     let files = folders.iter().flat_map(|f| fs::read_dir(f).unwrap_or_else(|e| panic!("{}: {e}", f.display())));
     files.map(|file| fs::read_to_string(file.unwrap().path()).unwrap()).collect()
 }

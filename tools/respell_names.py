@@ -180,7 +180,7 @@ def main(argv):
 
     for p in files(root, (".antt", ".rt", ".edit")):
         text = read(p)
-        new = outside_strings(text, turn) if p.endswith(".rt") else turn(text)
+        new = outside_strings(text, turn)
         if new != text:
             with open(p, "w", encoding="utf-8") as f:
                 f.write(new)

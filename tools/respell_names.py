@@ -184,11 +184,12 @@ def main(argv):
         if new != text:
             with open(p, "w", encoding="utf-8") as f:
                 f.write(new)
+    said = {"open-17", "open-18", "opened-18"}  # orders and replies, in the papers
     for p in papers(root):
         text = read(p)
         if text is None:
             continue
-        new = re.sub(r"`([^`\n]+)`", lambda m: "`" + turn(m[1]) + "`", text)
+        new = re.sub(r"`([^`\n]+)`", lambda m: "`" + (m[1] if m[1] in said else turn(m[1])) + "`", text)
         if new != text:
             with open(p, "w", encoding="utf-8") as f:
                 f.write(new)

@@ -180,15 +180,16 @@ def main(argv):
 
     for p in files(root, (".antt", ".rt", ".edit")):
         text = read(p)
-        new = outside_strings(text, turn) if p.endswith(".rt") else turn(text)
+        new = outside_strings(text, turn)
         if new != text:
             with open(p, "w", encoding="utf-8") as f:
                 f.write(new)
+    said = {"open-17", "open-18", "opened-18"}  # orders and replies, in the papers
     for p in papers(root):
         text = read(p)
         if text is None:
             continue
-        new = re.sub(r"`([^`\n]+)`", lambda m: "`" + turn(m[1]) + "`", text)
+        new = re.sub(r"`([^`\n]+)`", lambda m: "`" + (m[1] if m[1] in said else turn(m[1])) + "`", text)
         if new != text:
             with open(p, "w", encoding="utf-8") as f:
                 f.write(new)

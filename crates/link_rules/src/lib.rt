@@ -34,6 +34,7 @@ pub fn wrong_addresses(link: Link) -> bool
 }
 
 // Whether refusal 19 is due.
+#[tactic(auto, using(crate::proofs::RuleLaws::no_try, crate::proofs::RuleLaws::some_tries))]
 pub fn wrong_tries(tries: u8) -> bool
     ensures { result ≡ wrong_tries tries }
 {

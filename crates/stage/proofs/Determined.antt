@@ -34,7 +34,9 @@ use Rattle.stage.proofs.scenes.opening_passes.Reads as opening_passes_reads
 use Rattle.stage.specs.contracts.scenes.order_passes as order_passes
 use Rattle.stage.proofs.scenes.order_passes.Reads as order_passes_reads
 use Rattle.stage.specs.contracts.state.Stage.answer as answer
+use Rattle.stage.proofs.state.Stage.answer.Reads as answer_reads
 use Rattle.stage.specs.contracts.state.Stage.initiator_hears as initiator_hears
+use Rattle.stage.proofs.state.Stage.initiator_hears.Reads as initiator_hears_reads
 use Rattle.stage.specs.contracts.state.Stage.lose as lose
 use Rattle.stage.proofs.state.Stage.lose.Reads as lose_reads
 use Rattle.stage.specs.contracts.state.Stage.make_initiator_anew as make_initiator_anew
@@ -44,11 +46,15 @@ use Rattle.stage.proofs.state.Stage.make_responder_anew.Reads as make_responder_
 use Rattle.stage.specs.contracts.state.Stage.new as new_stage
 use Rattle.stage.proofs.state.Stage.new.Reads as new_stage_reads
 use Rattle.stage.specs.contracts.state.Stage.report_silence as report_silence
+use Rattle.stage.proofs.state.Stage.report_silence.Reads as report_silence_reads
 use Rattle.stage.specs.contracts.state.Stage.responder_hears as responder_hears
+use Rattle.stage.proofs.state.Stage.responder_hears.Reads as responder_hears_reads
 use Rattle.stage.specs.contracts.state.Stage.restart_initiator as restart_initiator
+use Rattle.stage.proofs.state.Stage.restart_initiator.Reads as restart_initiator_reads
 use Rattle.stage.specs.contracts.state.Stage.restart_responder as restart_responder
 use Rattle.stage.proofs.state.Stage.restart_responder.Reads as restart_responder_reads
 use Rattle.stage.specs.contracts.state.Stage.submit as submit
+use Rattle.stage.proofs.state.Stage.submit.Reads as submit_reads
 use Rattle.stage.specs.contracts.state.Stage.tally as tally
 use Rattle.stage.proofs.state.Stage.tally.Reads as tally_reads
 use Rattle.stage.specs.contracts.state.Stage.with_tries as with_tries
@@ -77,12 +83,12 @@ pub record Calls : Type 0 where
   pub make_responder_anew : Determined make_responder_anew.ended make_responder_anew_reads.Learnt
   pub restart_responder : Determined restart_responder.ended restart_responder_reads.Learnt
   pub lose : Determined lose.ended lose_reads.Learnt
-  pub submit : Determined submit.ended submit.Reads.Learnt
-  pub report_silence : Determined report_silence.ended report_silence.Reads.Learnt
-  pub initiator_hears : Determined initiator_hears.ended initiator_hears.Reads.Learnt
-  pub restart_initiator : Determined restart_initiator.ended restart_initiator.Reads.Learnt
-  pub responder_hears : Determined responder_hears.ended responder_hears.Reads.Learnt
-  pub answer : Determined answer.ended answer.Reads.Learnt
+  pub submit : Determined submit.ended submit_reads.Learnt
+  pub report_silence : Determined report_silence.ended report_silence_reads.Learnt
+  pub initiator_hears : Determined initiator_hears.ended initiator_hears_reads.Learnt
+  pub restart_initiator : Determined restart_initiator.ended restart_initiator_reads.Learnt
+  pub responder_hears : Determined responder_hears.ended responder_hears_reads.Learnt
+  pub answer : Determined answer.ended answer_reads.Learnt
 
 pub determined : Calls
 determined =

@@ -6,7 +6,7 @@ use mathlib.Core.Path.{◌≡◌, ap, ◌∙◌}
 use Rattle.initiator.specs.Records.{made_of}
 use Rattle.link_rules.specs.Rules.{default_tries, wrong_addresses, wrong_tries}
 use Rattle.stage.specs.Exchanges.{opening_passed, order_passed}
-use Rattle.stage.specs.Rows.{Step, head_end_submits, head_end_hears_nothing, head_end_hears, head_end_calls_restart, head_end_made_anew, cabinet_hears, cabinet_answers, cabinet_restarts, cabinet_made_anew, line_loses, stepped}
+use Rattle.stage.specs.Rows.{head_end_submits, head_end_hears_nothing, head_end_hears, head_end_calls_restart, head_end_made_anew, cabinet_hears, cabinet_answers, cabinet_restarts, cabinet_made_anew, line_loses, stepped}
 use Rattle.stage.specs.Stages.{fresh, fresh_with, submit_step, silence_step, initiator_hear_step, restart_step, responder_hear_step, answer_step, anew_of, responder_anew_of, restarted_of, lost_of}
 use Rattle.stage.specs.declared.state.Stage.{Stage}
 

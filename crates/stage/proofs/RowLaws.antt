@@ -5,12 +5,11 @@ use mathlib.Core.List.{List, [], ◌∷◌}
 use mathlib.Core.Path.{◌≡◌, refl, sym, ap, ◌∙◌}
 use native.Mathlib.Omega.{arith}
 use Rattle.initiator.proofs.RecordLaws.{made_closed}
-use Rattle.initiator.proofs.TriesLaws.{tried, turn_tried, again_of, submit_tried, hear_tried, restart_tried, silence_tried, Within, submit_within, hear_within, restart_within, again_within}
-use Rattle.initiator.specs.Calls.{submit_of, hear_of, restart_of}
+use Rattle.initiator.proofs.TriesLaws.{tried, again_of, submit_tried, hear_tried, restart_tried, silence_tried, Within, submit_within, hear_within, restart_within, again_within}
 use Rattle.initiator.specs.Records.{closed_of, used_of}
 use Rattle.initiator.specs.declared.state.Initiator.{Initiator}
 use Rattle.link_rules.specs.Rules.{Linked, Permitted, most_tries}
-use Rattle.stage.specs.Rows.{Step, head_end_submits, head_end_hears_nothing, head_end_hears, head_end_calls_restart, head_end_made_anew, cabinet_hears, cabinet_answers, cabinet_restarts, cabinet_made_anew, line_loses, anew_with, stepped, played_from, telegrams_from, played, telegrams, silences_in, silences}
+use Rattle.stage.specs.Rows.{Step, head_end_submits, head_end_hears_nothing, head_end_hears, head_end_calls_restart, head_end_made_anew, cabinet_hears, cabinet_answers, cabinet_restarts, cabinet_made_anew, line_loses, stepped, played_from, telegrams_from, played, telegrams, silences_in, silences}
 use Rattle.stage.specs.Stages.{scene_link, fresh, fresh_with, with_ends, on_line, submitted, ended, restarted_by, after_responder}
 use Rattle.stage.specs.declared.state.Stage.{Stage}
 

@@ -1,12 +1,13 @@
 -- `plain_in` meets its contract: each return is a case of `PlainLaws`, and a frame that was found lies within the bytes.
 use mathlib.Core.Path.{sym, ◌∙◌}
+use native.Mathlib.Omega.{arith}
 use Rattle.link_telegrams.proofs.PlainLaws as laws
 use Rattle.link_telegrams.proofs.heard.plain_in.Goals as goal
 
 pub returns-then-at-frame : goal.returns-then-at-frame
 returns-then-at-frame c =
     let a = c.args in
-    sym (laws.not_filling a.own a.heard.now a.frame c.requires.0 c.if-at-frame.true)
+    sym (laws.not_filling a.own a.heard.now a.frame c.requires.0 (λ e. omega (arith, e)))
 
 pub returns-then-da-own : goal.returns-then-da-own
 returns-then-da-own c =

@@ -75,7 +75,7 @@ FILENAME ~ /\.rt$/ {
         inside = size = 0
     }
     if (/^impl /) { type = $2; sub(/[^A-Za-z0-9_].*/, "", type) }
-    if (!inside && match($0, /^ *(#\[no_mangle\] *)?(pub(\(crate\))? )?(extern "C" )?fn /)) {
+    if (!inside && match($0, /^ *(pub(\(crate\))? )?(extern "C" )?fn /)) {
         inside = 1
         count++
         name = substr($0, RSTART + RLENGTH)

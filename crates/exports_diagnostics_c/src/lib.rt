@@ -1,12 +1,8 @@
 // The calls of `exports_diagnostics` for C: each under its own name, with its own promise, is the call of the library.
 #![tactic(auto)]
 
-ghost use Rattle.std.specs.Prelude.{◌≡◌, [], ◌∷◌, ℕ};
-ghost use Rattle.ground.specs.Bits.{digit};
-ghost use Rattle.diagnostics_blocks.specs.Shown.{shown_channel, shown_type};
-ghost use Rattle.diagnostics.specs.Shown.{shown_block, shown_found};
-ghost use Rattle.diagnostics.specs.Walk.{channel_is};
-ghost use Rattle.exports_diagnostics.specs.Calls.{koy_diagnostics_fill, koy_diagnostics_module, koy_diagnostics_step, step_call, told_of};
+ghost use Rattle.std.specs.Prelude.{◌≡◌};
+ghost use Rattle.exports_diagnostics.specs.Calls.{koy_diagnostics_fill, koy_diagnostics_module, koy_diagnostics_step};
 
 #[unsafe(no_mangle)]
 pub extern "C" fn koy_diagnostics_step(

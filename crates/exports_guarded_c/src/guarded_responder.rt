@@ -1,6 +1,6 @@
 // The calls of `exports_guarded::guarded_responder` for C.
-ghost use Rattle.std.specs.Prelude.{◌≡◌, List, [], ◌∷◌, ℕ};
-ghost use Rattle.exports_guarded.specs.ResponderCalls.{numbered, koy_guarded_responder_new, koy_guarded_responder_hear, koy_guarded_responder_answer};
+ghost use Rattle.std.specs.Prelude.{◌≡◌};
+ghost use Rattle.exports_guarded.specs.ResponderCalls.{koy_guarded_responder_new, koy_guarded_responder_hear, koy_guarded_responder_answer};
 
 // The numbers of its orders begin after the stamp. Refusal 18.
 #[unsafe(no_mangle)]

@@ -1,11 +1,6 @@
 // The calls of `exports_link::initiator_end` for C.
-ghost use Rattle.std.specs.Prelude.{◌≡◌, List, [], ◌∷◌, ℕ, drop, length};
-ghost use Rattle.initiator.specs.Calls.{shown_said};
-ghost use Rattle.initiator.specs.Heads.{whole_of, shown_on};
-ghost use Rattle.exports_link.specs.Leaves.{initiator_head_of, initiator_head_in};
-ghost use Rattle.exports_link.specs.Calls.{is_refusal, code_of, told_of, crossed};
-ghost use Rattle.exports_link.specs.InitiatorBytes.{initiator_bytes};
-ghost use Rattle.exports_link.specs.InitiatorCalls.{outcome_code, outcome_numbers, initiator_crosses, koy_initiator_new, koy_initiator_submit, koy_initiator_silence, koy_initiator_hear, koy_initiator_restart};
+ghost use Rattle.std.specs.Prelude.{◌≡◌, []};
+ghost use Rattle.exports_link.specs.InitiatorCalls.{koy_initiator_new, koy_initiator_submit, koy_initiator_silence, koy_initiator_hear, koy_initiator_restart};
 
 // Refusals 18 and 19, in this order.
 #[unsafe(no_mangle)]

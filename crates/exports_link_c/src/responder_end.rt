@@ -1,10 +1,6 @@
 // The calls of `exports_link::responder_end` for C.
-ghost use Rattle.std.specs.Prelude.{◌≡◌, List, [], ◌∷◌, ℕ, drop, length};
-ghost use Rattle.responder.specs.Calls.{shown_said, whole_of, shown_on};
-ghost use Rattle.exports_link.specs.Leaves.{responder_head_of};
-ghost use Rattle.exports_link.specs.Calls.{is_refusal, code_of, told_of, crossed};
-ghost use Rattle.exports_link.specs.ResponderBytes.{responder_bytes};
-ghost use Rattle.exports_link.specs.ResponderCalls.{order_code, order_numbers, responder_crosses, koy_responder_new, koy_responder_hear, koy_responder_answer, koy_responder_restart};
+ghost use Rattle.std.specs.Prelude.{◌≡◌};
+ghost use Rattle.exports_link.specs.ResponderCalls.{koy_responder_new, koy_responder_hear, koy_responder_answer, koy_responder_restart};
 
 // Refusal 18.
 #[unsafe(no_mangle)]

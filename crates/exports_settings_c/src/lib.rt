@@ -1,9 +1,8 @@
 // The calls of `exports_settings` for C: each under its own name, with its own promise, is the call of the library.
 #![tactic(auto)]
 
-ghost use Rattle.std.specs.Prelude.{◌≡◌, List, [], ◌∷◌, ℕ};
-ghost use Rattle.settings.specs.Writing.{shown_written};
-ghost use Rattle.exports_settings.specs.Calls.{koy_settings_read, koy_settings_write, write_call};
+ghost use Rattle.std.specs.Prelude.{◌≡◌};
+ghost use Rattle.exports_settings.specs.Calls.{koy_settings_read, koy_settings_write};
 
 // Refusals 20, 18, 19, in this order.
 #[unsafe(no_mangle)]

@@ -1,10 +1,7 @@
 // The calls of `exports_stations` for C: each under its own name, with its own promise, is the call of the library.
 #![tactic(auto)]
 
-ghost use Rattle.std.specs.Prelude.{◌≡◌, length};
-ghost use Rattle.ground.specs.Refusals.{shown};
-ghost use Rattle.token_ring.specs.Flags.{shown_found};
-ghost use Rattle.exports_stations.specs.Calls.{about_of, crossed, found_number};
+ghost use Rattle.std.specs.Prelude.{◌≡◌};
 ghost use Rattle.exports_stations.specs.Calls.{koy_stations_about, koy_stations_claim, koy_stations_first_from, koy_stations_is_active, koy_stations_last_to};
 ghost use Rattle.exports_stations.specs.Calls.{koy_stations_new, koy_stations_remove, koy_stations_set_next, koy_stations_witness};
 

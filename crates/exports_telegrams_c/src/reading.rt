@@ -1,6 +1,6 @@
 // The calls of `exports_telegrams::reading` for C.
 ghost use Rattle.std.specs.Prelude.{◌≡◌};
-ghost use Rattle.exports_telegrams.specs.Read.{data_told, koy_read, sap_number, told_of};
+ghost use Rattle.exports_telegrams.specs.Read.{koy_read};
 
 #[unsafe(no_mangle)]
 pub extern "C" fn koy_read(bytes: &[u8], told: &mut [usize; 9]) -> u8

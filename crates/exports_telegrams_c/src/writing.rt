@@ -1,8 +1,6 @@
 // The calls of `exports_telegrams::writing` for C.
-ghost use Rattle.std.specs.Prelude.{◌≡◌, ℕ, List, [], ◌∷◌};
-ghost use Rattle.exports_telegrams.specs.Write.{address_number, bare_call, koy_write_confirmation, koy_write_data, koy_write_token, sap_of, write_call};
-ghost use Rattle.exports_telegrams.specs.Leaves.{coded_header};
-ghost use Rattle.telegram_tx.specs.Writing.{shown_writing};
+ghost use Rattle.std.specs.Prelude.{◌≡◌};
+ghost use Rattle.exports_telegrams.specs.Write.{koy_write_confirmation, koy_write_data, koy_write_token};
 
 // Refusals 4, 8, 9, 10, in this order.
 #[unsafe(no_mangle)]

@@ -1,5 +1,6 @@
 -- What the definitions of the promises leave where their answer is a refusal: a law for each kind of answer. `RefusedStays` cites them for each
 -- call.
+use Rattle.std.proofs.Common.{Err, None, Ok, Option, Result, Some}
 use Prim.Native.Nat.{ℕ, ◌≤◌}
 use mathlib.Core.Bool.{Bool, true, false}
 use mathlib.Core.List.{List, [], ◌∷◌}
@@ -10,8 +11,6 @@ use lib.Dec.{eqb, ltb}
 use lib.ListN.{length, get_or}
 use Rattle.acceptance.specs.Refused.{IsRefused, IsNumber}
 use Rattle.codes.specs.FunctionCodes.{function_code_of}
-use Rattle.codes.specs.declared.function_code.FunctionCodeFound.TheVariants as codeFound
-use Rattle.codes.specs.declared.function_code.FunctionCodeFound.{FunctionCodeFound}
 use Rattle.diagnostics.proofs.Steps.{step_refused}
 use Rattle.diagnostics.specs.Store.{Filling, fill_of}
 use Rattle.diagnostics.specs.Walk as walk
@@ -24,11 +23,9 @@ use Rattle.exports_telegrams.specs.Write.{WriteCall, write_call, coded_call, hea
 use Rattle.ground.proofs.Injective.{zero_one}
 use Rattle.ground.specs.Pick.{if}
 use Rattle.ground.specs.Refusals.{OrRefused, gives, refused, number_of, shown}
-use Rattle.ground.specs.declared.refusal.Answer.TheVariants.{Done, Refused}
-use Rattle.ground.specs.declared.refusal.Answer.{Answer}
 use Rattle.listing.specs.Answers as listing
 use Rattle.responder_row.specs.Rows.{row_answers, row_after, row_of, shown_in, row_answered, shown_answered}
-use Rattle.responder_row.specs.declared.head.RowAnswered.{RowAnswered}
+use Rattle.ground.specs.declared.returned.Returned.{Returned}
 use Rattle.responder_row.specs.declared.head.RowHead.{RowHead}
 use Rattle.responder_row.specs.declared.row.Row.{Row}
 use Rattle.settings.specs.Reading as settingsReading
@@ -42,6 +39,8 @@ use Rattle.telegram_bytes.specs.declared.coded.CodedHeader.{CodedHeader}
 use Rattle.telegram_tx.specs.declared.tx.TelegramTxResponse.{TelegramTxResponse}
 use Rattle.token_ring.specs.Rules.{station_answer, next_set, removed}
 use Rattle.token_ring.specs.declared.ring.TokenRing.{TokenRing}
+use Rattle.ground.specs.declared.refusal.Refusal.{Refusal}
+use Rattle.codes.specs.declared.function_code.FunctionCode.{FunctionCode}
 
 -- what holds of the one side of an equation, of the other
 pub carried : {A : Type 0} (P : A → Type 0) {x y : A} → x ≡ y → P y → P x
@@ -80,11 +79,11 @@ written_stays t buf e f r = left_alone refused (λ o. left_of o t buf) buf (λ n
 
 -- where the function code comes as a byte
 pub coded_stays :
-    (found : FunctionCodeFound) (h : CodedHeader) (pdu buf : List ℕ) {x : OrRefused TelegramTxResponse} {after : List ℕ}
+    (found : Option FunctionCode) (h : CodedHeader) (pdu buf : List ℕ) {x : OrRefused TelegramTxResponse} {after : List ℕ}
     → x ≡ write_found found h pdu (length buf) → after ≡ buffer_found found h pdu buf → IsRefused refused x
     → after ≡ buf
-coded_stays (codeFound.Is fc) h pdu buf e f r = written_stays _ buf e f r
-coded_stays codeFound.Nothing h pdu buf e f r = f
+coded_stays (Some fc) h pdu buf e f r = written_stays _ buf e f r
+coded_stays None h pdu buf e f r = f
 
 -- ---- texts
 
@@ -119,15 +118,15 @@ removed_stays a r e = rw e
 
 -- ---- the responder's row
 
-number_shown : (answer : Answer) (row : Row) → IsNumber (shown answer) → IsRefused refused (shown_in answer row)
-number_shown Done row h = absurd (omega (arith, h.0))
-number_shown (Refused refusal) row h = record { number = number_of refusal; is = refl }
+number_shown : (answer : Result Unit Refusal) (row : Row) → IsNumber (shown answer) → IsRefused refused (shown_in answer row)
+number_shown (Ok tt) row h = absurd (omega (arith, h.0))
+number_shown (Err refusal) row h = record { number = number_of refusal; is = refl }
 
 -- whatever the held bytes are: none, and any answer
 pub row_kept :
-    (x : RowAnswered) (head : RowHead) (p : List ℕ) → shown_answered x [] p ≡ row_answers (row_of head []) p
+    (x : Returned (Result Unit Refusal) RowHead) (head : RowHead) (p : List ℕ) → shown_answered x [] p ≡ row_answers (row_of head []) p
     → row_answered x [] p ≡ row_after (row_answers (row_of head []) p) (row_of head []) → IsNumber (shown x.answer)
-    → x.head ≡ head
+    → x.after ≡ head
 row_kept x head p e f h =
     let q = left_alone refused (λ o. row_after o (row_of head [])) (row_of head []) (λ n. refl) e f (number_shown x.answer (row_answered x [] p) h) in
     λ i. record { state = (q i).state; len = (q i).len }
@@ -165,11 +164,11 @@ write_call_lem (gives response) told t buf = record { same = λ h. absurd (omega
 write_call_lem (refused n) told t buf = record { same = λ h. (refl, refl) }
 
 coded_call_lem :
-    (found : FunctionCodeFound) (da sa dsap ssap : ℕ) (pdu told buf : List ℕ)
+    (found : Option FunctionCode) (da sa dsap ssap : ℕ) (pdu told buf : List ℕ)
     → WriteStays told buf (coded_call found da sa dsap ssap pdu told buf)
-coded_call_lem (codeFound.Is fc) da sa dsap ssap pdu told buf =
+coded_call_lem (Some fc) da sa dsap ssap pdu told buf =
     write_call_lem (write_of (header_of da sa dsap ssap fc) pdu (length buf)) told (telegram_bytes (header_of da sa dsap ssap fc) pdu) buf
-coded_call_lem codeFound.Nothing da sa dsap ssap pdu told buf = record { same = λ h. (refl, refl) }
+coded_call_lem None da sa dsap ssap pdu told buf = record { same = λ h. (refl, refl) }
 
 pub write_data_stays : (da sa dsap ssap fc : ℕ) (pdu buf told : List ℕ) → WriteStays told buf (koy_write_data da sa dsap ssap fc pdu buf told)
 unfolding koy_write_data

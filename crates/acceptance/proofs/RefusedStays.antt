@@ -7,14 +7,14 @@
 --
 -- Calls that cannot refuse. Each public call is in the record or in this list, and none is in the list whose result could hold a refusal;
 -- docs/check-calls sees to both.
--- They ask what a value or bytes are: `Part::show`, `Refusal::number`, `Answer::number`, `checksum`, `FrameCountBit::fcb`,
+-- They ask what a value or bytes are: `Part::show`, `Refusal::number`, `answer_number`, `checksum`, `FrameCountBit::fcb`,
 -- `FrameCountBit::fcv`, `FunctionCode::to_byte`, `RequestType::number`, `RequestType::expects_reply`, `ResponseState::number`,
 -- `ResponseStatus::number`, `Frame::is_sealed`, `DataTelegram::pdu`, `DataTelegram::is_response`, `Telegram::source_address`,
 -- `Telegram::destination_address`, `DataTelegram::is_fdl_status_request`, `TelegramTxResponse::bytes_sent`,
 -- `TelegramTxResponse::expects_reply`, `LasState::is_valid`, `TokenRing::active_stations`, `TokenRing::ready_for_ring`,
 -- `TokenRing::this_station`, `TokenRing::next_station`, `TokenRing::previous_station`, `TokenRing::las_state`, `TokenRing::is_active`,
 -- `ChannelDataType::into_diag_byte2`, `ChannelError::into_diag_byte2`, `is_set`, `ExtendedDiagnostics::is_available`,
--- `ExtendedDiagnostics::raw_diag_buffer`, `decimal_len`, `byte_is_at`, `begins_at`, `Listed::text`, `wrong_addresses`, `wrong_tries`,
+-- `ExtendedDiagnostics::raw_diag_buffer`, `decimal_len`, `byte_is_at`, `begins_at`, `text`, `wrong_addresses`, `wrong_tries`,
 -- `wrong_length`, `Bit::frame_count_bit`, `InitiatorHead::order_len`, `Initiator::order`, `Initiator::own`, `Initiator::peer`,
 -- `Initiator::tries`, `Initiator::phase`, `Initiator::order_len`, `Phase::is_pending`, `Phase::tries_used`, `Phase::frame_count_bit`,
 -- `RowHead::held_len`, `RowState::stored_bit`, `RowState::owes_reply`, `RowState::holds_reply`, `Row::state`, `Row::head`,
@@ -192,7 +192,7 @@ use Rattle.telegram_strict.specs.contracts.strict.deserialize_strict as deserial
 use Rattle.telegram_strict.proofs.strict.deserialize_strict.Reads as deserialize_strict_reads
 use Rattle.telegram_strict.specs.contracts.strict.strict_start as strict_start
 use Rattle.telegram_strict.proofs.strict.strict_start.Reads as strict_start_reads
-use Rattle.telegram_strict.specs.Strict.{shown_in, strict_of}
+use Rattle.telegram_strict.specs.Strict.{shown_in, shown_start, strict_of}
 use Rattle.telegram_tx.specs.contracts.tx.send_coded_telegram as send_coded_telegram
 use Rattle.telegram_tx.proofs.tx.send_coded_telegram.Reads as send_coded_telegram_reads
 use Rattle.telegram_tx.specs.contracts.tx.send_data_telegram as send_data_telegram
@@ -217,10 +217,10 @@ use Rattle.token_ring.specs.Rules.{next_set, removed, station_answer}
 
 -- The two calls on a lent station list are proved by hand and have no `Learnt`: their promises, which `Says` shows to be their `ensures`.
 abbrev lent_set_next : Promise lent_set_next_station.ended
-lent_set_next κs a x e = Gives (station_answer a.1.0.0) (next_set a.1.0.0 a.0.now) (record { answer = x; ring = e.0.now })
+lent_set_next κs a x e = Gives (station_answer a.1.0.0) (next_set a.1.0.0 a.0.now) (record { answer = x; after = e.0.now })
 
 abbrev lent_remove : Promise lent_remove_station.ended
-lent_remove κs a x e = Gives (station_answer a.1.0.0) (removed a.1.0.0 a.0.now) (record { answer = x; ring = e.0.now })
+lent_remove κs a x e = Gives (station_answer a.1.0.0) (removed a.1.0.0 a.0.now) (record { answer = x; after = e.0.now })
 
 pub record EveryRefusal : Type 2 where
   -- codes and telegrams
@@ -228,7 +228,7 @@ pub record EveryRefusal : Type 2 where
   pub deserialize :
       RefusedStays deserialize.ended deserialize_reads.Learnt (λ κs x. IsRefused reading.refused (reading.shown_reading x))
       (λ κs e. e)
-  pub strict_start : RefusedStays strict_start.ended strict_start_reads.Learnt (λ κs x. IsNumber x) (λ κs e. e)
+  pub strict_start : RefusedStays strict_start.ended strict_start_reads.Learnt (λ κs x. IsNumber (shown_start x)) (λ κs e. e)
   pub deserialize_strict :
       RefusedStays deserialize_strict.ended deserialize_strict_reads.Learnt (λ κs x. IsRefused reading.refused (shown_in x))
       (λ κs e. e)
@@ -260,20 +260,20 @@ pub record EveryRefusal : Type 2 where
   pub new_ring : RefusedStays new_ring.ended new_ring_reads.Learnt (λ κs x. IsNumber (shown x.answer)) (λ κs e. e)
   pub set_next_station :
       RefusedKeeps set_next_station.ended set_next_station_reads.Learnt (λ κs x. IsNumber (shown x.answer))
-      (λ κs e. e) (λ κs a x. x.ring) (λ κs a. a.0)
+      (λ κs e. e) (λ κs a x. x.after) (λ κs a. a.0)
   pub remove_station :
       RefusedKeeps remove_station.ended remove_station_reads.Learnt (λ κs x. IsNumber (shown x.answer))
-      (λ κs e. e) (λ κs a x. x.ring) (λ κs a. a.0)
+      (λ κs e. e) (λ κs a x. x.after) (λ κs a. a.0)
   pub lent_set_next_says : Says lent_set_next_station.ended (λ M 𝓤 𝓛. lent_set_next_station.clauses 𝓛) lent_set_next
   pub lent_set_next_station : RefusedStays lent_set_next_station.ended lent_set_next (λ κs x. IsNumber (shown x)) (λ κs e. e)
   pub lent_remove_says : Says lent_remove_station.ended (λ M 𝓤 𝓛. lent_remove_station.clauses 𝓛) lent_remove
   pub lent_remove_station : RefusedStays lent_remove_station.ended lent_remove (λ κs x. IsNumber (shown x)) (λ κs e. e)
   -- diagnostics: filling answers false; a refused step moves the cursor to the end of what is walked
-  pub fill : RefusedKeeps fill.ended fill_reads.Learnt (λ κs x. x.filled ≡ false) (λ κs e. e) (λ κs a x. x.diag) (λ κs a. a.0)
+  pub fill : RefusedKeeps fill.ended fill_reads.Learnt (λ κs x. x.answer ≡ false) (λ κs e. e) (λ κs a x. x.after) (λ κs a. a.0)
   pub next :
-      RefusedLeaves next.ended next_reads.Learnt (λ κs x. IsRefused walk.refused (shown_found x.found))
+      RefusedLeaves next.ended next_reads.Learnt (λ κs x. IsRefused walk.refused (shown_found x.answer))
       (λ κs e. e) (λ κs a. a)
-      (λ κs a x. x.iter.cursor) (λ κs a. length (walked_of a.1.0.length a.1.1.0.now))
+      (λ κs a x. x.after.cursor) (λ κs a. length (walked_of a.1.0.length a.1.1.0.now))
   -- texts
   pub read_settings :
       RefusedStays read_settings.ended read_settings_reads.Learnt (λ κs x. IsRefused settingsReading.refused (settingsReading.shown_read x))
@@ -292,16 +292,16 @@ pub record EveryRefusal : Type 2 where
       (λ κs e. e)
   pub submit :
       RefusedKeeps submit.ended submit_reads.Learnt (λ κs x. IsRefused turns.refused (initiator.shown_said x.answer))
-      (λ κs e. e) (λ κs a x. x.initiator) (λ κs a. a.0)
+      (λ κs e. e) (λ κs a x. x.after) (λ κs a. a.0)
   pub silence :
       RefusedKeeps silence.ended silence_reads.Learnt (λ κs x. IsRefused turns.refused (initiator.shown_said x.answer))
-      (λ κs e. e) (λ κs a x. x.initiator) (λ κs a. a.0)
+      (λ κs e. e) (λ κs a x. x.after) (λ κs a. a.0)
   pub initiator_hear :
       RefusedKeeps initiator_hear.ended initiator_hear_reads.Learnt (λ κs x. IsRefused turns.refused (initiator.shown_said x.answer))
-      (λ κs e. e) (λ κs a x. x.initiator) (λ κs a. a.0)
+      (λ κs e. e) (λ κs a x. x.after) (λ κs a. a.0)
   pub initiator_restart :
       RefusedKeeps initiator_restart.ended initiator_restart_reads.Learnt (λ κs x. IsRefused turns.refused (initiator.shown_said x.answer))
-      (λ κs e. e) (λ κs a x. x.initiator) (λ κs a. a.0)
+      (λ κs e. e) (λ κs a x. x.after) (λ κs a. a.0)
   pub head_submit :
       RefusedKeeps head_submit.ended head_submit_reads.Learnt (λ κs x. IsRefused turns.refused (initiator.shown_said x.answer))
       (λ κs e. e) (λ κs a x. head_after x a.0) (λ κs a. a.0)
@@ -317,20 +317,20 @@ pub record EveryRefusal : Type 2 where
   -- the responder: its row, made, by value, on a head and a lent reply
   pub row_answer :
       RefusedKeeps row_answer.ended row_answer_reads.Learnt (λ κs x. IsNumber (shown x.answer))
-      (λ κs e. e) (λ κs a x. x.head) (λ κs a. a.0)
+      (λ κs e. e) (λ κs a x. x.after) (λ κs a. a.0)
   pub responder_new : RefusedStays responder_new.ended responder_new_reads.Learnt (λ κs x. IsNumber (shown x.answer)) (λ κs e. e)
   pub responder_hear :
       RefusedKeeps responder_hear.ended responder_hear_reads.Learnt (λ κs x. IsRefused turns.refused (responder.shown_said x.answer))
-      (λ κs e. e) (λ κs a x. x.responder) (λ κs a. a.0)
+      (λ κs e. e) (λ κs a x. x.after) (λ κs a. a.0)
   pub responder_answer :
       RefusedKeeps responder_answer.ended responder_answer_reads.Learnt (λ κs x. IsRefused turns.refused (responder.shown_said x.answer))
-      (λ κs e. e) (λ κs a x. x.responder) (λ κs a. a.0)
+      (λ κs e. e) (λ κs a x. x.after) (λ κs a. a.0)
   pub responder_head_hear :
       RefusedKeeps responder_head_hear.ended responder_head_hear_reads.Learnt (λ κs x. IsRefused turns.refused (responder.shown_said x.answer))
-      (λ κs e. e) (λ κs a x. x.head) (λ κs a. a.0)
+      (λ κs e. e) (λ κs a x. x.after) (λ κs a. a.0)
   pub responder_head_answer :
       RefusedKeeps responder_head_answer.ended responder_head_answer_reads.Learnt (λ κs x. IsRefused turns.refused (responder.shown_said x.answer))
-      (λ κs e. e) (λ κs a x. x.head) (λ κs a. a.0)
+      (λ κs e. e) (λ κs a x. x.after) (λ κs a. a.0)
   -- the static libraries, whose codes are the numbers
   pub koy_read : RefusedStays koy_read.ended koy_read_reads.Learnt (λ κs x. IsNumber x) (λ κs e. e)
   pub koy_read_strict : RefusedStays koy_read_strict.ended koy_read_strict_reads.Learnt (λ κs x. IsNumber x) (λ κs e. e)

@@ -2,8 +2,7 @@
 -- cite: `read_of` (`Telegram::deserialize`), `shown_part` (`DataTelegram::pdu`), `request_heard_of` (`request_heard`), `made` and `witnessed`
 -- (`TokenRing::new`, `witness_token_pass`), `step_of` (`ExtDiagBlockIter::next`), `body_of` (the bytes of a block's body) and `first_of`
 -- (`modules::first_set`). Bytes are hexadecimal.
-use Rattle.std.specs.Prelude.{ℕ, true, List, [], ◌∷◌, ◌≡◌}
-use Rattle.std.proofs.Math.Option.{some, none}
+use Rattle.std.specs.Prelude.{ℕ, true, List, [], ◌∷◌, ◌≡◌, None, Option, Some}
 use Rattle.ground.specs.Part.{shown_part}
 use Rattle.codes.specs.declared.frame_count_bit.FrameCountBit.TheVariants.{First, Low}
 use Rattle.codes.specs.declared.function_code.FunctionCode.{FunctionCode}
@@ -19,17 +18,16 @@ use Rattle.link_telegrams.specs.Heard.{request_heard_of}
 use Rattle.link_telegrams.specs.declared.headers.Bit.TheVariants as bit
 use Rattle.link_telegrams.specs.declared.heard.RequestHeard.TheVariants.{Order}
 use Rattle.telegram.specs.Reading.{Reading, whole, incomplete, refused, read_of}
-use Rattle.telegram.specs.declared.header.SapOption.{SapOption}
-use Rattle.telegram.specs.declared.header.SapOption.TheVariants.{Some, None}
 use Rattle.telegram.specs.declared.kinds.Telegram.TheVariants.{Data}
 use Rattle.token_ring.specs.Rules.{made}
 use Rattle.token_ring.specs.Passes.{◌to◌, after, ShownList, shown_list}
 use Rattle.token_ring.specs.declared.las_state.LasState.{LasState}
 use Rattle.token_ring.specs.declared.las_state.LasState.TheVariants.{Discovery, Verification, Valid}
 use Rattle.token_ring.specs.declared.ring.TokenRing.{TokenRing}
+use Rattle.ground.specs.declared.address.Sap.{Sap}
 
 -- the data telegram of 11 bytes from station 2 to station 5 with these SAPs, this function code and this part for its PDU
-abbrev from2to5 : SapOption → SapOption → FunctionCode → Part → Reading
+abbrev from2to5 : Option Sap → Option Sap → FunctionCode → Part → Reading
 from2to5 dsap ssap fc pdu =
     whole
     (Data (record {
@@ -39,7 +37,7 @@ from2to5 dsap ssap fc pdu =
     11
 
 -- a SAP
-abbrev sap : ℕ → SapOption
+abbrev sap : ℕ → Option Sap
 sap n = Some (record { 0 = n })
 
 -- the part of so many bytes from a place on
@@ -84,9 +82,9 @@ pub record Samples : Type 0 where
   pub changed : shown_list (after (9 to 5 ∷ []) own7) ≡ list (5 ∷ 9 ∷ []) 9 5 Discovery
   -- "42 05: modules 0 and 2"
   pub identifier : step_of (0x42 ∷ 0x05 ∷ []) 0 ≡ record { answer = block (identifier_at 1 1); cursor = 2 }
-  pub module0 : first_of (body (0x42 ∷ 0x05 ∷ []) 1 1) 0 ≡ some 0
-  pub module2 : first_of (body (0x42 ∷ 0x05 ∷ []) 1 1) 1 ≡ some 2
-  pub no_more : first_of (body (0x42 ∷ 0x05 ∷ []) 1 1) 3 ≡ none
+  pub module0 : first_of (body (0x42 ∷ 0x05 ∷ []) 1 1) 0 ≡ Some 0
+  pub module2 : first_of (body (0x42 ∷ 0x05 ∷ []) 1 1) 1 ≡ Some 2
+  pub no_more : first_of (body (0x42 ∷ 0x05 ∷ []) 1 1) 3 ≡ None
   -- "83 C1 26: module 3, channel 1, both, Bit, LineBreak"
   pub channel : step_of (0x83 ∷ 0xC1 ∷ 0x26 ∷ []) 0
       ≡ record {

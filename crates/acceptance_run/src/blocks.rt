@@ -2,38 +2,29 @@
 use crate::print;
 use diagnostics::{ExtDiagBlock, ExtendedDiagnostics, Found};
 use diagnostics_blocks::modules::first_set;
-use diagnostics_blocks::{ChannelDataType, ChannelDiagnostics, ChannelError, Module};
+use diagnostics_blocks::{ChannelDataType, ChannelDiagnostics, ChannelError};
 use line_text::printing::Streams;
 
-// The first module at or above a number whose bit is set, and where to look for the next one.
-fn print_from(streams: &Streams, body: &[u8], from: usize) -> usize {
-    let found = first_set(body, from);
-    let Module::At(at) = found else {
-        print::text(streams, b"-");
-        return from;
-    };
-    print::decimal(streams, at);
-    if at < 495 { at + 1 } else { at }
-}
-
+// The first three modules whose bit is set.
 fn print_identifier(streams: &Streams, body: &[u8]) {
     print::text(streams, b" modules=");
-    let second = print_from(streams, body, 0);
-    print::text(streams, b",");
-    let third = print_from(streams, body, second);
-    print::text(streams, b",");
-    print_from(streams, body, third);
+    let mut from = 0;
+    print::row(streams, 3, || {
+        let at = first_set(body, from)?;
+        from = at.saturating_add(1);
+        Some(at)
+    });
 }
 
-fn print_type(streams: &Streams, dtype: ChannelDataType) {
+fn type_name(dtype: ChannelDataType) -> &'static [u8] {
     match dtype {
-        ChannelDataType::Bit => print::text(streams, b"Bit"),
-        ChannelDataType::Bit2 => print::text(streams, b"Bit2"),
-        ChannelDataType::Bit4 => print::text(streams, b"Bit4"),
-        ChannelDataType::Byte => print::text(streams, b"Byte"),
-        ChannelDataType::Word => print::text(streams, b"Word"),
-        ChannelDataType::DWord => print::text(streams, b"DWord"),
-        ChannelDataType::Invalid => print::text(streams, b"Invalid"),
+        ChannelDataType::Bit => b"Bit",
+        ChannelDataType::Bit2 => b"Bit2",
+        ChannelDataType::Bit4 => b"Bit4",
+        ChannelDataType::Byte => b"Byte",
+        ChannelDataType::Word => b"Word",
+        ChannelDataType::DWord => b"DWord",
+        ChannelDataType::Invalid => b"Invalid",
     }
 }
 
@@ -48,22 +39,21 @@ fn print_error(streams: &Streams, error: ChannelError) {
         ChannelError::UpperLimitOvershoot => print::text(streams, b"UpperLimitOvershoot"),
         ChannelError::LowerLimitUndershoot => print::text(streams, b"LowerLimitUndershoot"),
         ChannelError::Error => print::text(streams, b"Error"),
-        ChannelError::Reserved(number) => print::byte(streams, number),
-        ChannelError::Vendor(number) => print::byte(streams, number),
+        ChannelError::Reserved(number) | ChannelError::Vendor(number) => {
+            print::byte(streams, number);
+        }
     }
 }
 
 fn print_channel(streams: &Streams, channel: ChannelDiagnostics) {
-    let dtype = channel.dtype;
-    let error = channel.error;
     print::named_byte(streams, b" module=", channel.module);
     print::named_byte(streams, b" channel=", channel.channel);
     print::named_flag(streams, b" input=", channel.input);
     print::named_flag(streams, b" output=", channel.output);
     print::text(streams, b" type=");
-    print_type(streams, dtype);
+    print::text(streams, type_name(channel.dtype));
     print::text(streams, b" error=");
-    print_error(streams, error);
+    print_error(streams, channel.error);
 }
 
 fn print_block(streams: &Streams, block: ExtDiagBlock, diag: ExtendedDiagnostics, store: &[u8]) {
@@ -94,18 +84,21 @@ fn first(streams: &Streams, name: &[u8], store: &[u8]) {
         length: store.len(),
     };
     let step = diag.iter_diag_blocks().next(diag, store);
-    let found = step.found;
-    print_found(streams, found, diag, store);
-    let after = step.iter;
-    print::named_decimal(streams, b" cursor=", after.cursor);
+    print_found(streams, step.answer, diag, store);
+    print::named_decimal(streams, b" cursor=", step.after.cursor);
     print::end(streams);
 }
 
 pub(crate) fn samples(streams: &Streams) {
-    first(streams, b"42-05", b"\x42\x05");
-    first(streams, b"83-C1-26", b"\x83\xC1\x26");
-    first(streams, b"40", b"\x40");
-    first(streams, b"C0", b"\xC0");
-    first(streams, b"43-01", b"\x43\x01");
-    first(streams, b"01", b"\x01");
+    let stores: [(&[u8], &[u8]); 6] = [
+        (b"42-05", b"\x42\x05"),
+        (b"83-C1-26", b"\x83\xC1\x26"),
+        (b"40", b"\x40"),
+        (b"C0", b"\xC0"),
+        (b"43-01", b"\x43\x01"),
+        (b"01", b"\x01"),
+    ];
+    for (name, store) in stores {
+        first(streams, name, store);
+    }
 }

@@ -43,6 +43,21 @@ pub(crate) fn named_flag(streams: &Streams, key: &[u8], on: bool) {
     }
 }
 
+// The first numbers of a row, with commas between them; `-` where the row has ended.
+pub(crate) fn row<F: FnMut() -> Option<usize>>(streams: &Streams, count: usize, mut next: F)
+    requires { F.IsAlwaysCallable next }
+{
+    for i in 0..count {
+        if i != 0 {
+            text(streams, b",");
+        }
+        match next() {
+            Some(number) => decimal(streams, number),
+            None => text(streams, b"-"),
+        }
+    }
+}
+
 pub(crate) fn end(streams: &Streams) {
     text(streams, b"\n");
 }

@@ -2,56 +2,40 @@
 use crate::print;
 use ground::Address;
 use line_text::printing::Streams;
-use token_ring::{Found, LasState, TokenRing};
-
-// The first active station from an address upward, and where to look for the next one.
-fn print_from(streams: &Streams, ring: TokenRing, from: u8) -> u8 {
-    let found = ring.first_active_from(Address(from));
-    let Found::Station(station) = found else {
-        print::text(streams, b"-");
-        return from;
-    };
-    let at = station.0;
-    print::byte(streams, at);
-    if at < 255 { at + 1 } else { at }
-}
+use token_ring::{LasState, TokenRing};
 
 // No sample leaves more than three.
 fn print_stations(streams: &Streams, ring: TokenRing) {
     print::text(streams, b" stations=");
-    let second = print_from(streams, ring, 0);
-    print::text(streams, b",");
-    let third = print_from(streams, ring, second);
-    print::text(streams, b",");
-    let fourth = print_from(streams, ring, third);
-    print::text(streams, b",");
-    print_from(streams, ring, fourth);
+    let mut from = 0u8;
+    print::row(streams, 4, || {
+        let station = ring.first_active_from(Address(from))?;
+        from = station.0.saturating_add(1);
+        Some(station.0 as usize)
+    });
 }
 
-fn print_phase(streams: &Streams, phase: LasState) {
+fn phase_name(phase: LasState) -> &'static [u8] {
     match phase {
-        LasState::Uninitialized => print::text(streams, b"Uninitialized"),
-        LasState::Discovery => print::text(streams, b"Discovery"),
-        LasState::Verification => print::text(streams, b"Verification"),
-        LasState::Valid => print::text(streams, b"Valid"),
+        LasState::Uninitialized => b"Uninitialized",
+        LasState::Discovery => b"Discovery",
+        LasState::Verification => b"Verification",
+        LasState::Valid => b"Valid",
     }
 }
 
 fn print_list(streams: &Streams, name: &[u8], ring: TokenRing) {
     print::sample(streams, name);
     print_stations(streams, ring);
-    let next = ring.next_station();
-    print::named_byte(streams, b" next=", next.0);
-    let previous = ring.previous_station();
-    print::named_byte(streams, b" previous=", previous.0);
+    print::named_byte(streams, b" next=", ring.next_station().0);
+    print::named_byte(streams, b" previous=", ring.previous_station().0);
     print::text(streams, b" phase=");
-    print_phase(streams, ring.las_state());
+    print::text(streams, phase_name(ring.las_state()));
     print::end(streams);
 }
 
 fn own(address: u8) -> TokenRing {
-    let made = TokenRing::new(Address(address));
-    made.ring
+    TokenRing::new(Address(address)).after
 }
 
 fn pass(ring: TokenRing, sa: u8, da: u8) -> TokenRing {

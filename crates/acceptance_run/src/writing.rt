@@ -3,39 +3,39 @@ use crate::{print, reading};
 use codes::{FrameCountBit, FunctionCode};
 use ground::Address;
 use line_text::printing::Streams;
-use telegram::{AddressOption, DataTelegramHeader, SapOption};
-use telegram_tx::{TelegramTxResult, send_data_telegram};
+use telegram::DataTelegramHeader;
+use telegram_tx::send_data_telegram;
 
 // An order at Low from station 2 to station 5.
 fn header() -> DataTelegramHeader {
     DataTelegramHeader {
         da: Address(5),
         sa: Address(2),
-        dsap: SapOption::None,
-        ssap: SapOption::None,
+        dsap: None,
+        ssap: None,
         fc: FunctionCode::new_srd_low(FrameCountBit::Low),
     }
 }
 
-fn print_replier(streams: &Streams, replier: AddressOption) {
+fn print_replier(streams: &Streams, replier: Option<Address>) {
     print::text(streams, b" reply-from=");
     match replier {
-        AddressOption::Some(address) => print::byte(streams, address.0),
-        AddressOption::None => print::text(streams, b"-"),
+        Some(address) => print::byte(streams, address.0),
+        None => print::text(streams, b"-"),
     }
 }
 
 fn write(streams: &Streams, name: &[u8], pdu: &[u8], buf: &mut [u8]) {
     print::sample(streams, name);
     match send_data_telegram(header(), pdu, buf) {
-        TelegramTxResult::Sent(response) => {
+        Ok(response) => {
             print::named_decimal(streams, b" sent=", response.bytes_sent());
             print_replier(streams, response.expects_reply());
         }
-        TelegramTxResult::Refused(refusal) => print::refused(streams, refusal),
+        Err(refusal) => print::refused(streams, refusal),
     }
-    if 0 < buf.len() {
-        print::named_byte(streams, b" first=", buf[0]);
+    if let Some(first) = buf.first() {
+        print::named_byte(streams, b" first=", *first);
     }
     print::end(streams);
 }

@@ -6,154 +6,94 @@
 mod lister_text;
 mod settings_text;
 
-ghost use Rattle.std.specs.Prelude.{◌≤◌};
-
-use bench_link::Ends;
-use ground::Part;
-use line_text::answers::{Answered, Out, flush, flushed, is_error, put_char, put_error};
-use line_text::bytes::find;
-use line_text::printing::{
-    Streams, is_readable, print, print_error, print_error_decimal, read_full,
-};
-use line_text::words::{INPUT, Input, LINE_TOO_LONG, UNKNOWN_COMMAND, is_end, number_of};
+use bench_link::{Ends, no_ends};
+use line_text::answers::Out;
+use line_text::bytes::front;
+use line_text::printing::{Streams, is_readable, print, print_error, print_error_value, read_full};
+use line_text::words::{Fault, Words};
 use std::io;
+
+// The longest input.
+const INPUT: usize = 1048576;
 
 // The longest line.
 const LINE: usize = 16384;
 
-// As long as the answers' buffer.
-const OUT: usize = 65536;
+// Each subject has names of its own; the first that knows the name answers.
+fn answer(line: &[u8], ends: &mut Ends, out: &mut Out) -> Result<(), Fault> {
+    let mut words = Words::new(line);
+    let name = words.name();
+    bench_link::play(ends, name, words, out)
+        .or_else(|| bench_telegrams::answer(name, words, out))
+        .or_else(|| bench_stations::answer(name, words, out))
+        .or_else(|| bench_diagnostics::answer(name, words, out))
+        .or_else(|| own_answer(name, words, out))
+        .unwrap_or(Err(Fault::UnknownCommand))
+}
 
 // The commands that no subject's crate has.
-fn own_command(
-    streams: &Streams,
-    number: usize,
-    input: &Input,
-    at: usize,
-    out: &mut Out,
-    to: usize,
-) -> usize {
-    match number {
-        0 => settings_text::settings(input, at, out, to),
-        1 => lister_text::lister(streams, input, at, out, to),
-        _ => put_error(out, to, UNKNOWN_COMMAND),
+fn own_answer(name: &[u8], words: Words, out: &mut Out) -> Option<Result<(), Fault>> {
+    match name {
+        b"settings" => Some(settings_text::settings(words, out)),
+        b"lister" => Some(lister_text::lister(words, out)),
+        _ => None,
     }
 }
 
-// Each subject has names of its own; the first that knows the name answers.
-fn plain_command(streams: &Streams, input: &Input, at: usize, out: &mut Out, to: usize) -> usize {
-    if let Answered::Until(end) = bench_telegrams::answer(input, at, out, to) {
-        return end;
+// A line may end with a carriage return before its line feed.
+fn without_return(line: &[u8]) -> &[u8] {
+    match line {
+        [front @ .., b'\r'] => front,
+        _ => line,
     }
-    if let Answered::Until(end) = bench_stations::answer(streams, input, at, out, to) {
-        return end;
-    }
-    if let Answered::Until(end) = bench_diagnostics::answer(streams, input, at, out, to) {
-        return end;
-    }
-    let name = number_of(input, at, b"settings lister ");
-    own_command(streams, name.number, input, name.next, out, to)
 }
 
-fn answer(streams: &Streams, input: &Input, at: usize, mut ends: Ends, out: &mut Out) -> Ends {
-    if bench_link::is_named(input, at) {
-        return bench_link::play(input, at, ends, out);
-    }
-    ends.to = plain_command(streams, input, at, out, ends.to);
-    ends
-}
-
-// Lays the line feed behind an answer.
-fn ended(mut ends: Ends, out: &mut Out) -> Ends {
-    ends.to = put_char(out, ends.to, b'\n');
-    ends
-}
-
-fn answer_line(
-    streams: &Streams,
-    input: &Input,
-    at: usize,
-    len: usize,
-    mut ends: Ends,
-    out: &mut Out,
-) -> Ends {
-    if LINE < len {
-        ends.to = put_error(out, ends.to, LINE_TOO_LONG);
-        return ends;
-    }
-    answer(streams, input, at, ends, out)
-}
-
-// Whether a line gets no answer.
-fn is_passed_over(input: &Input, at: usize) -> bool {
-    if is_end(input, at) {
-        return true;
-    }
-    text::byte_is_at(input, at, b'#')
-}
-
-// Tells why the line of a number was answered `error`: the reason is laid behind the answer, up to a line feed.
-fn tell_reason(streams: &Streams, out: &Out, at: usize, number: usize) {
-    if OUT < at {
-        return;
-    }
-    let end = find(out, at, b'\n');
-    let reason = Part {
-        start: at,
-        len: end - at,
-    };
+// Why the line of a number was answered `error`.
+fn tell_fault(streams: &Streams, number: usize, fault: Fault) {
     print_error(streams, b"bench: line ");
-    print_error_decimal(streams, number);
+    print_error_value(streams, number);
     print_error(streams, b": ");
-    print_error(streams, reason.show(out));
+    print_error_value(streams, fault);
     print_error(streams, b"\n");
 }
 
-fn play_line(
-    streams: &Streams,
-    input: &Input,
-    at: usize,
-    len: usize,
-    number: usize,
-    mut ends: Ends,
-    out: &mut Out,
-) -> Ends {
-    if is_passed_over(input, at) {
-        return ends;
+// An empty line, and one that begins with `#`, gets no answer.
+fn play_line(streams: &Streams, line: &[u8], number: usize, ends: &mut Ends, out: &mut Out) {
+    let command = without_return(line);
+    if command.is_empty() || command.starts_with(b"#") {
+        return;
     }
-    ends.to = flushed(streams, out, ends.to);
-    let start = ends.to;
-    let after = ended(answer_line(streams, input, at, len, ends, out), out);
-    if is_error(out, start) {
-        tell_reason(streams, out, after.to, number);
+    let answered = if LINE < line.len() {
+        Err(Fault::LineTooLong)
+    } else {
+        answer(command, ends, out)
+    };
+    if let Err(fault) = answered {
+        out.text("error");
+        tell_fault(streams, number, fault);
     }
-    after
+    out.text("\n");
 }
 
-fn run(streams: &Streams, input: &Input, len: usize, out: &mut Out)
-    requires { len ≤ 1048576 }
-{
-    let mut ends = bench_link::no_ends();
-    let mut at = 0;
-    let mut number = 1;
-    while at < len {
-        let end = find(input, at, b'\n');
-        ends = play_line(streams, input, at, end - at, number, ends, out);
-        at = end + 1;
-        number += 1;
+fn run(streams: &Streams, input: &[u8]) {
+    let mut out = Out::new(streams);
+    let mut ends = no_ends();
+    for (i, line) in input.split(|b| *b == b'\n').enumerate() {
+        play_line(streams, line, i + 1, &mut ends, &mut out);
     }
-    flush(streams, out, ends.to);
+    out.flush();
 }
 
-fn input_buffer() -> Input {
-    [0; 1048577]
+// One byte more tells an input that is too long. Made behind a call, so that no proof of `main` computes with so many bytes.
+fn input_buffer() -> [u8; INPUT + 1] {
+    [0; INPUT + 1]
 }
 
 fn main(rt: HostRuntime) -> io::Result<()> {
     let streams = Streams::new(rt.stdin(), rt.stdout(), rt.stderr());
     let mut input = input_buffer();
-    let n = read_full(&streams, &mut input);
-    if INPUT < n {
+    let len = read_full(&streams, &mut input);
+    if INPUT < len {
         print(&streams, b"error\n");
         print_error(&streams, b"bench: more than 1,048,576 bytes\n");
         return streams.end();
@@ -162,8 +102,6 @@ fn main(rt: HostRuntime) -> io::Result<()> {
         print_error(&streams, b"bench: standard input cannot be read\n");
         return streams.end();
     }
-    input[n] = b'\n';
-    let mut out = [0u8; 65536];
-    run(&streams, &input, n, &mut out);
+    run(&streams, front(&input, len));
     streams.end()
 }

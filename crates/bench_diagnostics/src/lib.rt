@@ -5,28 +5,16 @@ mod blocks;
 mod stores;
 mod walks;
 
-use line_text::answers::{Answered, Out};
-use line_text::printing::Streams;
-use line_text::words::{Input, number_of};
+use line_text::answers::Out;
+use line_text::words::{Fault, Words};
 
-fn command(
-    streams: &Streams,
-    number: usize,
-    input: &Input,
-    at: usize,
-    out: &mut Out,
-    to: usize,
-) -> Answered {
-    match number {
-        0 => Answered::Until(walks::diag(streams, input, at, out, to)),
-        1 => Answered::Until(walks::step(input, at, out, to)),
-        2 => Answered::Until(stores::raw(input, at, out, to)),
-        3 => Answered::Until(stores::store(streams, input, at, out, to)),
-        _ => Answered::NotNamed,
+// What the command of this name does with its words, or nothing, since it is none of these names.
+pub fn answer(name: &[u8], words: Words, out: &mut Out) -> Option<Result<(), Fault>> {
+    match name {
+        b"diag" => Some(walks::diag(words, out)),
+        b"step" => Some(walks::step(words, out)),
+        b"raw" => Some(stores::raw(words, out)),
+        b"store" => Some(stores::store(words, out)),
+        _ => None,
     }
-}
-
-pub fn answer(streams: &Streams, input: &Input, at: usize, out: &mut Out, to: usize) -> Answered {
-    let name = number_of(input, at, b"diag step raw store ");
-    command(streams, name.number, input, name.next, out, to)
 }

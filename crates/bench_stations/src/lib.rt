@@ -4,26 +4,14 @@
 mod ops;
 mod stations;
 
-use line_text::answers::{Answered, Out};
-use line_text::printing::Streams;
-use line_text::words::{Input, number_of};
+use line_text::answers::Out;
+use line_text::words::{Fault, Words};
 
-fn command(
-    streams: &Streams,
-    number: usize,
-    input: &Input,
-    at: usize,
-    out: &mut Out,
-    to: usize,
-) -> Answered {
-    match number {
-        0 => Answered::Until(stations::ring(streams, input, at, true, out, to)),
-        1 => Answered::Until(stations::ring(streams, input, at, false, out, to)),
-        _ => Answered::NotNamed,
+// What the command of this name does with its words, or nothing, since it is none of these names.
+pub fn answer(name: &[u8], words: Words, out: &mut Out) -> Option<Result<(), Fault>> {
+    match name {
+        b"ring" => Some(stations::play(words, stations::put_state, out)),
+        b"ready" => Some(stations::play(words, stations::put_ready, out)),
+        _ => None,
     }
-}
-
-pub fn answer(streams: &Streams, input: &Input, at: usize, out: &mut Out, to: usize) -> Answered {
-    let name = number_of(input, at, b"ring ready ");
-    command(streams, name.number, input, name.next, out, to)
 }

@@ -4,30 +4,23 @@
 mod reading;
 mod writing;
 
-use line_text::answers::{Answered, Out};
-use line_text::words::{Input, number_of};
+use line_text::answers::Out;
+use line_text::words::{Fault, Words};
+use telegram_strict::Mode;
 
-fn command(number: usize, input: &Input, at: usize, out: &mut Out, to: usize) -> Answered {
-    match number {
-        0 => Answered::Until(reading::read(input, at, out, to)),
-        1 => Answered::Until(reading::about(input, at, out, to)),
-        2 => Answered::Until(reading::fc(input, at, out, to)),
-        3 => Answered::Until(reading::cycle(input, at, out, to)),
-        4 => Answered::Until(writing::write(input, at, out, to)),
-        5 => Answered::Until(writing::wtoken(input, at, out, to)),
-        6 => Answered::Until(writing::wack(input, at, out, to)),
-        7 => Answered::Until(writing::wstatus(input, at, out, to)),
-        8 => Answered::Until(writing::wstate(input, at, out, to)),
-        9 => Answered::Until(reading::sread(input, at, out, to)),
-        _ => Answered::NotNamed,
+// What the command of this name does with its words, or nothing, since it is none of these names.
+pub fn answer(name: &[u8], words: Words, out: &mut Out) -> Option<Result<(), Fault>> {
+    match name {
+        b"read" => Some(reading::read(Mode::Default, words, out)),
+        b"about" => Some(reading::about(words, out)),
+        b"fc" => Some(reading::fc(words, out)),
+        b"cycle" => Some(reading::cycle(words, out)),
+        b"write" => Some(writing::write(words, out)),
+        b"wtoken" => Some(writing::wtoken(words, out)),
+        b"wack" => Some(writing::wack(words, out)),
+        b"wstatus" => Some(writing::wstatus(words, out)),
+        b"wstate" => Some(writing::wstate(words, out)),
+        b"sread" => Some(reading::read(Mode::Strict, words, out)),
+        _ => None,
     }
-}
-
-pub fn answer(input: &Input, at: usize, out: &mut Out, to: usize) -> Answered {
-    let name = number_of(
-        input,
-        at,
-        b"read about fc cycle write wtoken wack wstatus wstate sread ",
-    );
-    command(name.number, input, name.next, out, to)
 }

@@ -1,85 +1,66 @@
 // The names of function codes as programs print them: those of the library's enums, which are profirust's. Like `line_text`, support code of
-// programs.
+// programs. By a `match` and not by `Debug`, whose text nobody owes to those who read these programs' output.
+// Promises: specs/Names.antt.
 #![tactic(auto)]
 
+ghost use Rattle.std.specs.Prelude.{◌≡◌};
+ghost use Rattle.code_names.specs.Names.{request_type_name, frame_count_bit_name, response_state_name, response_status_name};
+
 use codes::{FrameCountBit, RequestType, ResponseState, ResponseStatus};
-use line_text::answers::{Out, put_name};
 
-// The place of a request type's name in the list of names.
-fn request_type_place(req: RequestType) -> usize {
+pub fn request_type(req: RequestType) -> &'static str
+    ensures { result.now ≡ request_type_name req }
+{
     match req {
-        RequestType::ClockValue => 0,
-        RequestType::TimeEvent => 1,
-        RequestType::SdaLow => 2,
-        RequestType::SdnLow => 3,
-        RequestType::SdaHigh => 4,
-        RequestType::SdnHigh => 5,
-        RequestType::MulticastSrd => 6,
-        RequestType::FdlStatus => 7,
-        RequestType::SrdLow => 8,
-        RequestType::SrdHigh => 9,
-        RequestType::Ident => 10,
-        RequestType::LsapStatus => 11,
+        RequestType::ClockValue => "ClockValue",
+        RequestType::TimeEvent => "TimeEvent",
+        RequestType::SdaLow => "SdaLow",
+        RequestType::SdnLow => "SdnLow",
+        RequestType::SdaHigh => "SdaHigh",
+        RequestType::SdnHigh => "SdnHigh",
+        RequestType::MulticastSrd => "MulticastSrd",
+        RequestType::FdlStatus => "FdlStatus",
+        RequestType::SrdLow => "SrdLow",
+        RequestType::SrdHigh => "SrdHigh",
+        RequestType::Ident => "Ident",
+        RequestType::LsapStatus => "LsapStatus",
     }
 }
 
-pub fn put_request_type(out: &mut Out, to: usize, req: RequestType) -> usize {
-    put_name(
-        out,
-        to,
-        b"ClockValue TimeEvent SdaLow SdnLow SdaHigh SdnHigh MulticastSrd FdlStatus SrdLow SrdHigh Ident LsapStatus ",
-        request_type_place(req),
-    )
-}
-
-fn frame_count_bit_place(fcb: FrameCountBit) -> usize {
+pub fn frame_count_bit(fcb: FrameCountBit) -> &'static str
+    ensures { result.now ≡ frame_count_bit_name fcb }
+{
     match fcb {
-        FrameCountBit::First => 0,
-        FrameCountBit::High => 1,
-        FrameCountBit::Low => 2,
-        FrameCountBit::Inactive => 3,
+        FrameCountBit::First => "First",
+        FrameCountBit::High => "High",
+        FrameCountBit::Low => "Low",
+        FrameCountBit::Inactive => "Inactive",
     }
 }
 
-pub fn put_frame_count_bit(out: &mut Out, to: usize, fcb: FrameCountBit) -> usize {
-    put_name(
-        out,
-        to,
-        b"First High Low Inactive ",
-        frame_count_bit_place(fcb),
-    )
+pub fn response_state(state: ResponseState) -> &'static str
+    ensures { result.now ≡ response_state_name state }
+{
+    match state {
+        ResponseState::Slave => "Slave",
+        ResponseState::MasterNotReady => "MasterNotReady",
+        ResponseState::MasterWithoutToken => "MasterWithoutToken",
+        ResponseState::MasterInRing => "MasterInRing",
+    }
 }
 
-// A state's place in the list of names is its number.
-pub fn put_state(out: &mut Out, to: usize, state: ResponseState) -> usize {
-    put_name(
-        out,
-        to,
-        b"Slave MasterNotReady MasterWithoutToken MasterInRing ",
-        state.number() as usize,
-    )
-}
-
-// The place of a status's name in the list of names.
-fn status_place(status: ResponseStatus) -> usize {
+pub fn response_status(status: ResponseStatus) -> &'static str
+    ensures { result.now ≡ response_status_name status }
+{
     match status {
-        ResponseStatus::Ok => 0,
-        ResponseStatus::UserError => 1,
-        ResponseStatus::NoResources => 2,
-        ResponseStatus::SapNotEnabled => 3,
-        ResponseStatus::DataLow => 4,
-        ResponseStatus::NoDataReady => 5,
-        ResponseStatus::DataHigh => 6,
-        ResponseStatus::NotReceivedDataLow => 7,
-        ResponseStatus::NotReceivedDataHigh => 8,
+        ResponseStatus::Ok => "Ok",
+        ResponseStatus::UserError => "UserError",
+        ResponseStatus::NoResources => "NoResources",
+        ResponseStatus::SapNotEnabled => "SapNotEnabled",
+        ResponseStatus::DataLow => "DataLow",
+        ResponseStatus::NoDataReady => "NoDataReady",
+        ResponseStatus::DataHigh => "DataHigh",
+        ResponseStatus::NotReceivedDataLow => "NotReceivedDataLow",
+        ResponseStatus::NotReceivedDataHigh => "NotReceivedDataHigh",
     }
-}
-
-pub fn put_status(out: &mut Out, to: usize, status: ResponseStatus) -> usize {
-    put_name(
-        out,
-        to,
-        b"Ok UserError NoResources SapNotEnabled DataLow NoDataReady DataHigh NotReceivedDataLow NotReceivedDataHigh ",
-        status_place(status),
-    )
 }

@@ -17,7 +17,7 @@ unfolding checksum_of
 checksum_byte s = mod-lt (sum_of s) (lit< tt)
 
 -- A sum that was begun at 0 is the checksum.
-pub summed_from_0 : (s : List ℕ) → (0 + sum_of s) % 256 ≡ checksum_of s
+summed_from_0 : (s : List ℕ) → (0 + sum_of s) % 256 ≡ checksum_of s
 unfolding checksum_of
 summed_from_0 s = rw zero-add
 
@@ -37,3 +37,7 @@ sum_goes_on s begun i sum h e = rw (mod-add-mod, add-one, add_assoc) (rw (drop-c
 pub sum_ends : (s : List ℕ) (begun i sum : ℕ) → length s ≤ i → sum < 256 → Summed s begun i sum → sum ≡ (begun + sum_of s) % 256
 unfolding Summed sum_of
 sum_ends s begun i sum l h e = sym (mod-eq_of_lt h) ∙ rw (drop_of_length-le s {i = i} l, add-zero) at e
+
+-- A sum that was begun at 0 ends as the checksum.
+pub checksum_ends : (s : List ℕ) (i sum : ℕ) → length s ≤ i → sum < 256 → Summed s 0 i sum → sum ≡ checksum_of s
+checksum_ends s i sum l h e = sum_ends s 0 i sum l h e ∙ summed_from_0 s

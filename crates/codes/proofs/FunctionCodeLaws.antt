@@ -1,34 +1,25 @@
 -- Laws of the function code: what is written is read back (`read_written`); what is read is written back, but for bit 7 of a response
 -- (`written_read`); exactly 120 of the 256 bytes are read; a code is read from its bytes and from no other (`code_read_exactly`); and
 -- whether a reply is expected is told by parts of the byte (`request_reply`, `response_reply`).
-use Rattle.std.proofs.Common.{◌≡◌, ℕ, ◌+◌, ◌/◌, ◌%◌, ◌<◌, Bool, true, false, eqb, leb, refl, ap, ◌∙◌, arith, eq-eqb, ne_eqb, eqb-true, leb-false, leb-true}
+use Rattle.std.proofs.Common.{◌≡◌, ℕ, ◌+◌, ◌/◌, ◌%◌, ◌<◌, Bool, true, false, eqb, leb, refl, ap, ◌∙◌, arith, eq-eqb, ne_eqb, eqb-true, leb-false, leb-true, None, Option, Some}
 use Rattle.codes.proofs.EachNumber.{NoFault, at_each, fault_before, faults_from, no_fault}
-use Rattle.codes.proofs.NumberLaws.{frame_count_part_small, request_number_small, request_type_again, state_number_small, status_again, status_number_small}
+use Rattle.codes.proofs.NumberLaws.{frame_count_part_small, request_number_small, state_number_small, status_number_small}
 use Rattle.ground.proofs.Injective.{led_back, zero_one}
 use Rattle.codes.specs.FrameCountBits.{frame_count_bit_of}
 use Rattle.ground.specs.Bits.{bit}
 use Rattle.codes.specs.FunctionCodes.{request_bits, request_of, response_of, function_code_of, reply_found, code_byte, CodeRead, as_written, bit7_set, kept_byte, read_from}
-use Rattle.codes.specs.RequestTypes.{request_number, request_type_of, expects_reply}
-use Rattle.codes.specs.Responses.{state_of, status_number, status_of}
+use Rattle.codes.specs.RequestTypes.{request_type_of}
+use Rattle.codes.specs.Responses.{state_of, status_of}
 use Rattle.codes.specs.declared.frame_count_bit.FrameCountBit.{FrameCountBit}
 use Rattle.codes.specs.declared.frame_count_bit.FrameCountBit.TheVariants.{First, High, Low, Inactive}
 use Rattle.codes.specs.declared.function_code.FunctionCode.{FunctionCode}
 use Rattle.codes.specs.declared.function_code.FunctionCode.TheVariants.{Request, Response}
-use Rattle.codes.specs.declared.function_code.FunctionCodeFound.{FunctionCodeFound}
-use Rattle.codes.specs.declared.function_code.FunctionCodeFound.TheVariants.{Is, Nothing}
-use Rattle.codes.specs.declared.function_code.ReplyFound.TheVariants as replyTo
 use Rattle.codes.specs.declared.request_type.RequestType.{RequestType}
 use Rattle.codes.specs.declared.request_type.RequestType.TheVariants.{ClockValue, TimeEvent, SdaLow, SdnLow, SdaHigh, SdnHigh, MulticastSrd, FdlStatus, SrdLow, SrdHigh, Ident, LsapStatus}
-use Rattle.codes.specs.declared.request_type.RequestTypeFound.{RequestTypeFound}
-use Rattle.codes.specs.declared.request_type.RequestTypeFound.TheVariants as requestFound
 use Rattle.codes.specs.declared.response.ResponseState.{ResponseState}
 use Rattle.codes.specs.declared.response.ResponseState.TheVariants.{Slave, MasterNotReady, MasterWithoutToken, MasterInRing}
-use Rattle.codes.specs.declared.response.ResponseStateFound.{ResponseStateFound}
-use Rattle.codes.specs.declared.response.ResponseStateFound.TheVariants as stateFound
 use Rattle.codes.specs.declared.response.ResponseStatus.{ResponseStatus}
 use Rattle.codes.specs.declared.response.ResponseStatus.TheVariants.{Ok, UserError, NoResources, SapNotEnabled, DataLow, NoDataReady, DataHigh, NotReceivedDataLow, NotReceivedDataHigh}
-use Rattle.codes.specs.declared.response.ResponseStatusFound.{ResponseStatusFound}
-use Rattle.codes.specs.declared.response.ResponseStatusFound.TheVariants as statusFound
 
 -- ---- what is written is read back
 
@@ -49,7 +40,7 @@ every_state P a b c d MasterInRing = d
 
 -- What is written is read back: of one code.
 Again : FunctionCode → Type 0
-Again code = function_code_of (code_byte code) ≡ Is code
+Again code = function_code_of (code_byte code) ≡ Some code
 
 request_again : (fcb : FrameCountBit) (req : RequestType) → Again (Request fcb req)
 unfolding Again function_code_of code_byte request_type_of
@@ -79,13 +70,13 @@ response_again state NotReceivedDataLow = every_state (λ s. Again (Response s N
 response_again state NotReceivedDataHigh = every_state (λ s. Again (Response s NotReceivedDataHigh)) refl refl refl refl state
 
 -- What is written is read back.
-pub read_written : (code : FunctionCode) → function_code_of (code_byte code) ≡ Is code
+pub read_written : (code : FunctionCode) → function_code_of (code_byte code) ≡ Some code
 unfolding Again
 read_written (Request fcb req) = request_again fcb req
 read_written (Response state status) = response_again state status
 
 pub code_byte_injective : (x y : FunctionCode) → code_byte x ≡ code_byte y → x ≡ y
-code_byte_injective x y e = let h : Is x ≡ Is y = led_back code_byte Is function_code_of read_written x y e in cc
+code_byte_injective x y e = let h : Some x ≡ Some y = led_back code_byte Some function_code_of read_written x y e in cc
 
 -- A written function code is a byte.
 pub code_byte_small : (code : FunctionCode) → code_byte code < 256
@@ -96,9 +87,9 @@ code_byte_small (Response state status) = omega (arith, state_number_small state
 -- ---- what is read is written back: computed at all 256 bytes
 
 -- Whether writing what a byte was read as gives the byte that it should: computed at all 256.
-kept : ℕ → FunctionCodeFound → Bool
-kept b (Is code) = eqb (code_byte code) (kept_byte b)
-kept b Nothing = true
+kept : ℕ → Option FunctionCode → Bool
+kept b (Some code) = eqb (code_byte code) (kept_byte b)
+kept b None = true
 
 kept_at : ℕ → Bool
 kept_at b = kept b (function_code_of b)
@@ -108,14 +99,14 @@ unfolding faults_from fault_before kept_at kept function_code_of code_byte reque
 all_kept = no_fault
 
 kept_is :
-    (b : ℕ) (code : FunctionCode) (found : FunctionCodeFound) → kept b found ≡ true → found ≡ Is code
+    (b : ℕ) (code : FunctionCode) (found : Option FunctionCode) → kept b found ≡ true → found ≡ Some code
     → code_byte code ≡ kept_byte b
 unfolding kept
-kept_is b code (Is c) t e = let h : c ≡ code = cc in rw h at (eqb-true (code_byte c) (kept_byte b) t)
-kept_is b code Nothing t e = absurd (zero_one (cc))
+kept_is b code (Some c) t e = let h : c ≡ code = cc in rw h at (eqb-true (code_byte c) (kept_byte b) t)
+kept_is b code None t e = absurd (zero_one (cc))
 
 -- "Writing gives the same byte back, except that a response loses bit 7."
-pub written_read : (b : ℕ) → b < 256 → (code : FunctionCode) → function_code_of b ≡ Is code → code_byte code ≡ kept_byte b
+pub written_read : (b : ℕ) → b < 256 → (code : FunctionCode) → function_code_of b ≡ Some code → code_byte code ≡ kept_byte b
 unfolding kept_at
 written_read b h code e = kept_is b code (function_code_of b) (at_each kept_at 256 all_kept b h) e
 
@@ -137,7 +128,7 @@ bit7_ignored b h =
     rw (high, low, state, status)
 
 -- Every byte of a function code is read as it.
-pub code_reads : {fc : FunctionCode} {b : ℕ} → CodeRead fc b → function_code_of b ≡ Is fc
+pub code_reads : {fc : FunctionCode} {b : ℕ} → CodeRead fc b → function_code_of b ≡ Some fc
 unfolding code_byte
 code_reads {fc} as_written = read_written fc
 code_reads (bit7_set {state} {status}) =
@@ -146,21 +137,21 @@ code_reads (bit7_set {state} {status}) =
 
 -- A response's byte, with bit 7 either way.
 either_way :
-    (x : ResponseStateFound) (y : ResponseStatusFound) (fc : FunctionCode) (b : ℕ) (t : Bool) → leb 128 b ≡ t → b < 256
-    → response_of x y ≡ Is fc → code_byte fc ≡ b % 128
+    (x : Option ResponseState) (y : Option ResponseStatus) (fc : FunctionCode) (b : ℕ) (t : Bool) → leb 128 b ≡ t → b < 256
+    → response_of x y ≡ Some fc → code_byte fc ≡ b % 128
     → CodeRead fc b
-either_way (stateFound.Is state) (statusFound.Is status) fc b true t h e k =
+either_way (Some state) (Some status) fc b true t h e k =
     let is : Response state status ≡ fc = cc in
     let byte : code_byte (Response state status) + 128 ≡ b = omega (arith, leb-true 128 b t, rw (← is) at k) in
     rw (← is, ← byte) bit7_set
-either_way (stateFound.Is state) (statusFound.Is status) fc b false t h e k =
+either_way (Some state) (Some status) fc b false t h e k =
     let byte : code_byte fc ≡ b = omega (arith, leb-false 128 b t) in
     rw (← byte) as_written
-either_way (stateFound.Is state) statusFound.Nothing fc b t q h e k = absurd (zero_one (cc))
-either_way stateFound.Nothing y fc b t q h e k = absurd (zero_one (cc))
+either_way (Some state) None fc b t q h e k = absurd (zero_one (cc))
+either_way None y fc b t q h e k = absurd (zero_one (cc))
 
 by_bit6 :
-    (b : ℕ) → b < 256 → (fc : FunctionCode) → function_code_of b ≡ Is fc → (t : Bool) → bit 6 b ≡ t
+    (b : ℕ) → b < 256 → (fc : FunctionCode) → function_code_of b ≡ Some fc → (t : Bool) → bit 6 b ≡ t
     → CodeRead fc b
 unfolding function_code_of
 by_bit6 b h fc e true q = let byte : code_byte fc ≡ b = rw q at (written_read b h fc e) in rw (← byte) as_written
@@ -168,20 +159,20 @@ by_bit6 b h fc e false q =
     either_way (state_of (b / 16 % 4)) (status_of (b % 16)) fc b (leb 128 b) refl h (rw q at e) (rw q at (written_read b h fc e))
 
 -- A byte that is read as a function code is one of its bytes.
-pub read_code : (b : ℕ) → b < 256 → (fc : FunctionCode) → function_code_of b ≡ Is fc → CodeRead fc b
+pub read_code : (b : ℕ) → b < 256 → (fc : FunctionCode) → function_code_of b ≡ Some fc → CodeRead fc b
 read_code b h fc e = by_bit6 b h fc e (bit 6 b) refl
 
 -- A code is read from exactly its bytes.
 pub code_read_exactly :
     (b : ℕ) → b < 256 → (fc : FunctionCode)
-    → (function_code_of b ≡ Is fc → CodeRead fc b) × (CodeRead fc b → function_code_of b ≡ Is fc)
+    → (function_code_of b ≡ Some fc → CodeRead fc b) × (CodeRead fc b → function_code_of b ≡ Some fc)
 code_read_exactly b h fc = (read_code b h fc, code_reads)
 
 -- ---- the reader of a byte, test by test
 
 -- Bit 6 set: it is the request of the type and the frame count bit that were found.
 pub request_read :
-    (b : ℕ) (fcb : FrameCountBit) (found : RequestTypeFound)
+    (b : ℕ) (fcb : FrameCountBit) (found : Option RequestType)
     → b / 64 % 2 ≡ 1 → fcb ≡ frame_count_bit_of (bit 4 b) (bit 5 b) → found ≡ request_type_of (request_bits b)
     → request_of fcb found ≡ function_code_of b
 unfolding function_code_of
@@ -189,7 +180,7 @@ request_read b fcb found set bits type = rw (eq-eqb _ _ set, bits, type)
 
 -- Bit 6 clear: it is the response of the state and the status that were found.
 pub response_read :
-    (b : ℕ) (state : ResponseStateFound) (status : ResponseStatusFound)
+    (b : ℕ) (state : Option ResponseState) (status : Option ResponseStatus)
     → (b / 64 % 2 ≡ 1 → ⊥) → state ≡ state_of (b / 16 % 4) → status ≡ status_of (b % 16)
     → response_of state status ≡ function_code_of b
 unfolding function_code_of
@@ -197,26 +188,15 @@ response_read b state status clear e f = rw (ne_eqb _ _ clear, e, f)
 
 -- ---- whether a reply is expected
 
--- To a request of each type, and to a response of each status, by their numbers.
-pub type_reply :
-    (req : RequestType)
-    → reply_found (request_of Inactive (request_type_of (request_number req))) ≡ replyTo.Is (expects_reply req)
-type_reply req = rw (request_type_again req)
-
-pub status_reply :
-    (status : ResponseStatus)
-    → reply_found (response_of (stateFound.Is Slave) (status_of (status_number status))) ≡ replyTo.Is false
-status_reply status = rw (status_again status)
-
 -- The frame count bit has no part in it.
-any_bit : (x y : FrameCountBit) (found : RequestTypeFound) → reply_found (request_of x found) ≡ reply_found (request_of y found)
-any_bit x y (requestFound.Is req) = refl
-any_bit x y requestFound.Nothing = refl
+any_bit : (x y : FrameCountBit) (found : Option RequestType) → reply_found (request_of x found) ≡ reply_found (request_of y found)
+any_bit x y (Some req) = refl
+any_bit x y None = refl
 
 -- Nor has the state, which two bits always name.
-is_named : ResponseStateFound → Bool
-is_named (stateFound.Is state) = true
-is_named stateFound.Nothing = false
+is_named : Option ResponseState → Bool
+is_named (Some state) = true
+is_named None = false
 
 named_at : ℕ → Bool
 named_at n = is_named (state_of n)
@@ -226,12 +206,12 @@ unfolding faults_from fault_before named_at is_named state_of
 all_named = no_fault
 
 any_state :
-    (state : ResponseState) (x : ResponseStateFound) (found : ResponseStatusFound) → is_named x ≡ true
-    → reply_found (response_of (stateFound.Is state) found) ≡ reply_found (response_of x found)
+    (state : ResponseState) (x : Option ResponseState) (found : Option ResponseStatus) → is_named x ≡ true
+    → reply_found (response_of (Some state) found) ≡ reply_found (response_of x found)
 unfolding is_named
-any_state state (stateFound.Is other) (statusFound.Is status) t = refl
-any_state state (stateFound.Is other) statusFound.Nothing t = refl
-any_state state stateFound.Nothing found t = absurd (zero_one (cc))
+any_state state (Some other) (Some status) t = refl
+any_state state (Some other) None t = refl
+any_state state None found t = absurd (zero_one (cc))
 
 -- Bit 6 set: it is told by the request's number.
 pub request_reply :
@@ -244,7 +224,7 @@ request_reply b set =
 -- Bit 6 clear: by the status.
 pub response_reply :
     (b : ℕ) → (b / 64 % 2 ≡ 1 → ⊥)
-    → reply_found (response_of (stateFound.Is Slave) (status_of (b % 16))) ≡ reply_found (function_code_of b)
+    → reply_found (response_of (Some Slave) (status_of (b % 16))) ≡ reply_found (function_code_of b)
 unfolding named_at
 response_reply b clear =
     any_state Slave (state_of (b / 16 % 4)) (status_of (b % 16))

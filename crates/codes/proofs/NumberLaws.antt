@@ -1,5 +1,5 @@
 -- Laws of the numbers of the codes: how large they are, that each is looked up again, and so that no two are alike. A section for each type.
-use Rattle.std.proofs.Common.{◌≡◌, ◌≤◌, refl, ap, lit≤}
+use Rattle.std.proofs.Common.{◌≡◌, ◌≤◌, refl, ap, lit≤, Err, Ok, Result, Some}
 use Rattle.ground.proofs.Injective.{injective, led_back}
 use Rattle.ground.proofs.RefusalLaws.{refusal_of, refusal_again}
 use Rattle.ground.specs.Refusals.{OrRefused, gives, refused}
@@ -7,19 +7,15 @@ use Rattle.codes.specs.FrameCountBits.{shown_cycled}
 use Rattle.codes.specs.FunctionCodes.{frame_count_part}
 use Rattle.codes.specs.RequestTypes.{request_number, request_type_of}
 use Rattle.codes.specs.Responses.{state_number, state_of, status_number, status_of}
-use Rattle.codes.specs.declared.frame_count_bit.Cycled.{Cycled}
-use Rattle.codes.specs.declared.frame_count_bit.Cycled.TheVariants as cycled
 use Rattle.codes.specs.declared.frame_count_bit.FrameCountBit.{FrameCountBit}
 use Rattle.codes.specs.declared.frame_count_bit.FrameCountBit.TheVariants.{First, High, Low, Inactive}
 use Rattle.codes.specs.declared.request_type.RequestType.{RequestType}
 use Rattle.codes.specs.declared.request_type.RequestType.TheVariants.{ClockValue, TimeEvent, SdaLow, SdnLow, SdaHigh, SdnHigh, MulticastSrd, FdlStatus, SrdLow, SrdHigh, Ident, LsapStatus}
-use Rattle.codes.specs.declared.request_type.RequestTypeFound.TheVariants as requestFound
 use Rattle.codes.specs.declared.response.ResponseState.{ResponseState}
 use Rattle.codes.specs.declared.response.ResponseState.TheVariants.{Slave, MasterNotReady, MasterWithoutToken, MasterInRing}
-use Rattle.codes.specs.declared.response.ResponseStateFound.TheVariants as stateFound
 use Rattle.codes.specs.declared.response.ResponseStatus.{ResponseStatus}
 use Rattle.codes.specs.declared.response.ResponseStatus.TheVariants.{Ok, UserError, NoResources, SapNotEnabled, DataLow, NoDataReady, DataHigh, NotReceivedDataLow, NotReceivedDataHigh}
-use Rattle.codes.specs.declared.response.ResponseStatusFound.TheVariants as statusFound
+use Rattle.ground.specs.declared.refusal.Refusal.{Refusal}
 
 -- ---- the frame count bit
 
@@ -30,15 +26,15 @@ frame_count_part_small Low = lit≤ tt
 frame_count_part_small Inactive = lit≤ tt
 
 -- A cycled bit, or its refusal, is the one that what is shown leads back to.
-abbrev cycled_back : OrRefused FrameCountBit → Cycled
-cycled_back (gives bit) = cycled.Next bit
-cycled_back (refused n) = cycled.Refused (refusal_of n)
+abbrev cycled_back : OrRefused FrameCountBit → Result FrameCountBit Refusal
+cycled_back (gives bit) = Ok bit
+cycled_back (refused n) = Err (refusal_of n)
 
-cycled_again : (x : Cycled) → cycled_back (shown_cycled x) ≡ x
-cycled_again (cycled.Next bit) = refl
-cycled_again (cycled.Refused r) = ap cycled.Refused (refusal_again r)
+cycled_again : (x : Result FrameCountBit Refusal) → cycled_back (shown_cycled x) ≡ x
+cycled_again (Ok bit) = refl
+cycled_again (Err r) = ap Err (refusal_again r)
 
-pub cycled_injective : (x y : Cycled) → shown_cycled x ≡ shown_cycled y → x ≡ y
+pub cycled_injective : (x y : Result FrameCountBit Refusal) → shown_cycled x ≡ shown_cycled y → x ≡ y
 cycled_injective = injective shown_cycled cycled_back cycled_again
 
 -- ---- the request types
@@ -58,7 +54,7 @@ request_number_small Ident = lit≤ tt
 request_number_small LsapStatus = lit≤ tt
 
 -- A request type is the one that its number is looked up to.
-pub request_type_again : (x : RequestType) → request_type_of (request_number x) ≡ requestFound.Is x
+pub request_type_again : (x : RequestType) → request_type_of (request_number x) ≡ Some x
 unfolding request_type_of
 request_type_again ClockValue = refl
 request_type_again TimeEvent = refl
@@ -75,7 +71,7 @@ request_type_again LsapStatus = refl
 
 pub request_number_injective : (x y : RequestType) → request_number x ≡ request_number y → x ≡ y
 request_number_injective x y e =
-    let h : requestFound.Is x ≡ requestFound.Is y = led_back request_number requestFound.Is request_type_of request_type_again x y e in cc
+    let h : Some x ≡ Some y = led_back request_number Some request_type_of request_type_again x y e in cc
 
 -- ---- a response's state
 
@@ -86,7 +82,7 @@ state_number_small MasterWithoutToken = lit≤ tt
 state_number_small MasterInRing = lit≤ tt
 
 -- A state is the one that its number is looked up to.
-pub state_again : (x : ResponseState) → state_of (state_number x) ≡ stateFound.Is x
+pub state_again : (x : ResponseState) → state_of (state_number x) ≡ Some x
 unfolding state_of
 state_again Slave = refl
 state_again MasterNotReady = refl
@@ -95,7 +91,7 @@ state_again MasterInRing = refl
 
 pub state_number_injective : (x y : ResponseState) → state_number x ≡ state_number y → x ≡ y
 state_number_injective x y e =
-    let h : stateFound.Is x ≡ stateFound.Is y = led_back state_number stateFound.Is state_of state_again x y e in cc
+    let h : Some x ≡ Some y = led_back state_number Some state_of state_again x y e in cc
 
 -- ---- a response's status
 
@@ -111,7 +107,7 @@ status_number_small NotReceivedDataLow = lit≤ tt
 status_number_small NotReceivedDataHigh = lit≤ tt
 
 -- A status is the one that its number is looked up to.
-pub status_again : (x : ResponseStatus) → status_of (status_number x) ≡ statusFound.Is x
+pub status_again : (x : ResponseStatus) → status_of (status_number x) ≡ Some x
 unfolding status_of
 status_again Ok = refl
 status_again UserError = refl
@@ -125,4 +121,4 @@ status_again NotReceivedDataHigh = refl
 
 pub status_number_injective : (x y : ResponseStatus) → status_number x ≡ status_number y → x ≡ y
 status_number_injective x y e =
-    let h : statusFound.Is x ≡ statusFound.Is y = led_back status_number statusFound.Is status_of status_again x y e in cc
+    let h : Some x ≡ Some y = led_back status_number Some status_of status_again x y e in cc

@@ -1,6 +1,6 @@
 -- The table of function codes: what an entry says (`entry_of`), the one number that each code has in it (`entry_for`), and that a table in which
 -- a test, computed over all of it, finds no fault says of each byte what document 01's rule says (`table_reads`).
-use Rattle.std.proofs.Common.{◌≡◌, ℕ, zero, suc, ◌+◌, ◌*◌, ◌/◌, ◌%◌, ◌<◌, ◌≤◌, Bool, eqb, List, [], get_or, sym, refl, ap, ◌∙◌, arith, eq-eqb, ne_eqb, eqb-true}
+use Rattle.std.proofs.Common.{◌≡◌, ℕ, zero, suc, ◌+◌, ◌*◌, ◌/◌, ◌%◌, ◌<◌, ◌≤◌, Bool, eqb, List, [], get_or, sym, refl, ap, ◌∙◌, arith, eq-eqb, ne_eqb, eqb-true, None, Option, Some}
 use Rattle.ground.specs.Bits.{bit}
 use Rattle.ground.specs.Pick.{if}
 use Rattle.codes.proofs.EachNumber.{NoFault, at_each, faults_from}
@@ -12,34 +12,23 @@ use Rattle.codes.specs.Responses.{state_number, state_of, status_number, status_
 use Rattle.codes.specs.declared.frame_count_bit.FrameCountBit.{FrameCountBit}
 use Rattle.codes.specs.declared.frame_count_bit.FrameCountBit.TheVariants.{First, High, Low, Inactive}
 use Rattle.codes.specs.declared.function_code.FunctionCode.TheVariants.{Request, Response}
-use Rattle.codes.specs.declared.function_code.FunctionCodeFound.{FunctionCodeFound}
-use Rattle.codes.specs.declared.function_code.FunctionCodeFound.TheVariants.{Is, Nothing}
 use Rattle.codes.specs.declared.request_type.RequestType.{RequestType}
-use Rattle.codes.specs.declared.request_type.RequestTypeFound.{RequestTypeFound}
-use Rattle.codes.specs.declared.request_type.RequestTypeFound.TheVariants as requestFound
 use Rattle.codes.specs.declared.response.ResponseState.{ResponseState}
-use Rattle.codes.specs.declared.response.ResponseStateFound.{ResponseStateFound}
-use Rattle.codes.specs.declared.response.ResponseStateFound.TheVariants as stateFound
 use Rattle.codes.specs.declared.response.ResponseStatus.{ResponseStatus}
-use Rattle.codes.specs.declared.response.ResponseStatusFound.{ResponseStatusFound}
-use Rattle.codes.specs.declared.response.ResponseStatusFound.TheVariants as statusFound
+use Rattle.codes.specs.declared.function_code.FunctionCode.{FunctionCode}
 
 -- What the digits of an entry say, as `entry_code` promises it.
-abbrev pub entry_of : ℕ → FunctionCodeFound
+abbrev pub entry_of : ℕ → Option FunctionCode
 entry_of entry =
-    if (eqb (entry / 4096) 0) Nothing
+    if (eqb (entry / 4096) 0) None
     (if (eqb (entry / 4096) 1) (request_of (frame_count_bit_of (bit 8 entry) (bit 9 entry)) (request_type_of (entry % 256)))
     (response_of (state_of (entry / 256 % 4)) (status_of (entry % 256))))
 
 -- ---- an entry, digit by digit
 
--- 0: it is none.
-pub no_entry : (x : ℕ) → x / 4096 ≡ 0 → Nothing ≡ entry_of x
-no_entry x kind = rw (eq-eqb _ _ kind)
-
 -- 1: it is the request of the type and the frame count bit that were found.
 pub request_entry :
-    (x : ℕ) (fcb : FrameCountBit) (found : RequestTypeFound)
+    (x : ℕ) (fcb : FrameCountBit) (found : Option RequestType)
     → x / 4096 ≡ 1 → fcb ≡ frame_count_bit_of (bit 8 x) (bit 9 x) → found ≡ request_type_of (x % 256)
     → request_of fcb found ≡ entry_of x
 request_entry x fcb found kind bits type =
@@ -48,7 +37,7 @@ request_entry x fcb found kind bits type =
 
 -- Else it is the response of the state and the status that were found.
 pub response_entry :
-    (x : ℕ) (state : ResponseStateFound) (status : ResponseStatusFound)
+    (x : ℕ) (state : Option ResponseState) (status : Option ResponseStatus)
     → (x / 4096 ≡ 0 → ⊥) → (x / 4096 ≡ 1 → ⊥) → state ≡ state_of (x / 256 % 4) → status ≡ status_of (x % 256)
     → response_of state status ≡ entry_of x
 response_entry x state status some other e f = rw (ne_eqb _ _ some, ne_eqb _ _ other, e, f)
@@ -56,10 +45,10 @@ response_entry x state status some other e f = rw (ne_eqb _ _ some, ne_eqb _ _ o
 -- ---- the one number of each code
 
 -- What stands in the table for what a byte is read as: its digits 0xKABB.
-unfoldable pub entry_for : FunctionCodeFound → ℕ
-entry_for (Is (Request fcb req)) = 0x1000 + frame_count_part fcb / 16 * 256 + request_number req
-entry_for (Is (Response state status)) = 0x2000 + state_number state * 256 + status_number status
-entry_for Nothing = 0
+unfoldable pub entry_for : Option FunctionCode → ℕ
+entry_for (Some (Request fcb req)) = 0x1000 + frame_count_part fcb / 16 * 256 + request_number req
+entry_for (Some (Response state status)) = 0x2000 + state_number state * 256 + status_number status
+entry_for None = 0
 
 -- FCV and FCB are bits 8 and 9 of it.
 bits_again :
@@ -72,33 +61,33 @@ bits_again Inactive n x h e = rw (ne_eqb (x / 256 % 2) 1 (λ k. omega arith), ne
 
 request_again :
     (fcb : FrameCountBit) (req : RequestType) (x : ℕ) → x ≡ 0x1000 + frame_count_part fcb / 16 * 256 + request_number req
-    → entry_of x ≡ Is (Request fcb req)
+    → entry_of x ≡ Some (Request fcb req)
 request_again fcb req x e =
     let part : frame_count_part fcb ≤ 48 = frame_count_part_small fcb in
     let small : request_number req ≤ 128 = request_number_small req in
     let number : x % 256 ≡ request_number req = omega arith in
     sym
-    (request_entry x fcb (requestFound.Is req) (omega arith) (bits_again fcb (request_number req) x (omega arith) e)
+    (request_entry x fcb (Some req) (omega arith) (bits_again fcb (request_number req) x (omega arith) e)
     (rw number (sym (request_type_again req))))
 
 response_again :
     (state : ResponseState) (status : ResponseStatus) (x : ℕ) → x ≡ 0x2000 + state_number state * 256 + status_number status
-    → entry_of x ≡ Is (Response state status)
+    → entry_of x ≡ Some (Response state status)
 response_again state status x e =
     let part : state_number state ≤ 3 = state_number_small state in
     let small : status_number status ≤ 13 = status_number_small status in
     let high : x / 256 % 4 ≡ state_number state = omega arith in
     let number : x % 256 ≡ status_number status = omega arith in
     sym
-    (response_entry x (stateFound.Is state) (statusFound.Is status) (λ h. omega arith) (λ h. omega arith)
+    (response_entry x (Some state) (Some status) (λ h. omega arith) (λ h. omega arith)
     (rw high (sym (state_again state))) (rw number (sym (status_again status))))
 
 -- It says what it was made for.
-entry_again : (found : FunctionCodeFound) → entry_of (entry_for found) ≡ found
+entry_again : (found : Option FunctionCode) → entry_of (entry_for found) ≡ found
 unfolding entry_for
-entry_again (Is (Request fcb req)) = request_again fcb req _ refl
-entry_again (Is (Response state status)) = response_again state status _ refl
-entry_again Nothing = refl
+entry_again (Some (Request fcb req)) = request_again fcb req _ refl
+entry_again (Some (Response state status)) = response_again state status _ refl
+entry_again None = refl
 
 -- ---- the table
 

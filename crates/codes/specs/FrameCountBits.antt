@@ -1,10 +1,9 @@
 -- Document 01, "Function code": the frame count bit, `frame_count_bit_of`, and its cycle, `cycle_of`.
-use Rattle.std.specs.Prelude.{Bool, true, false}
+use Rattle.std.specs.Prelude.{Bool, true, false, Err, Ok, Result}
 use Rattle.ground.specs.Refusals.{OrRefused, gives, refused, number_of}
-use Rattle.codes.specs.declared.frame_count_bit.Cycled.{Cycled}
-use Rattle.codes.specs.declared.frame_count_bit.Cycled.TheVariants.{Next, Refused}
 use Rattle.codes.specs.declared.frame_count_bit.FrameCountBit.{FrameCountBit}
 use Rattle.codes.specs.declared.frame_count_bit.FrameCountBit.TheVariants.{First, High, Low, Inactive}
+use Rattle.ground.specs.declared.refusal.Refusal.{Refusal}
 
 -- (FCV, FCB) = (0,0) Inactive, (0,1) First, (1,1) High, (1,0) Low
 abbrev pub frame_count_bit_of : Bool → Bool → FrameCountBit
@@ -34,6 +33,6 @@ cycle_of Low = gives High
 cycle_of Inactive = refused 15
 
 -- what `cycle` answers, with document 01's number
-abbrev pub shown_cycled : Cycled → OrRefused FrameCountBit
-shown_cycled (Next bit) = gives bit
-shown_cycled (Refused refusal) = refused (number_of refusal)
+abbrev pub shown_cycled : Result FrameCountBit Refusal → OrRefused FrameCountBit
+shown_cycled (Ok bit) = gives bit
+shown_cycled (Err refusal) = refused (number_of refusal)

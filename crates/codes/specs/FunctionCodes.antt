@@ -1,6 +1,6 @@
 -- Document 01, "Function code": the function code's byte, read (`function_code_of`) and written (`code_byte`), which bytes a code has
 -- (`CodeRead`), and whether a reply is expected (`reply_found`).
-use Rattle.std.specs.Prelude.{ℕ, zero, suc, ◌+◌, ◌*◌, ◌/◌, ◌%◌, ◌^◌, Bool, true, false}
+use Rattle.std.specs.Prelude.{ℕ, zero, suc, ◌+◌, ◌*◌, ◌/◌, ◌%◌, ◌^◌, Bool, true, false, None, Option, Some}
 use Rattle.ground.specs.Bits.{bit, digit}
 use Rattle.codes.specs.FrameCountBits.{frame_count_bit_of, fcv_of, fcb_of}
 use Rattle.ground.specs.Pick.{if}
@@ -9,18 +9,9 @@ use Rattle.codes.specs.Responses.{state_number, state_of, status_number, status_
 use Rattle.codes.specs.declared.frame_count_bit.FrameCountBit.{FrameCountBit}
 use Rattle.codes.specs.declared.function_code.FunctionCode.{FunctionCode}
 use Rattle.codes.specs.declared.function_code.FunctionCode.TheVariants.{Request, Response}
-use Rattle.codes.specs.declared.function_code.FunctionCodeFound.{FunctionCodeFound}
-use Rattle.codes.specs.declared.function_code.FunctionCodeFound.TheVariants.{Is, Nothing}
-use Rattle.codes.specs.declared.function_code.ReplyFound.{ReplyFound}
-use Rattle.codes.specs.declared.function_code.ReplyFound.TheVariants as replyTo
-use Rattle.codes.specs.declared.request_type.RequestTypeFound.{RequestTypeFound}
-use Rattle.codes.specs.declared.request_type.RequestTypeFound.TheVariants as requestFound
 use Rattle.codes.specs.declared.response.ResponseState.{ResponseState}
-use Rattle.codes.specs.declared.response.ResponseStateFound.{ResponseStateFound}
-use Rattle.codes.specs.declared.response.ResponseStateFound.TheVariants as stateFound
 use Rattle.codes.specs.declared.response.ResponseStatus.{ResponseStatus}
-use Rattle.codes.specs.declared.response.ResponseStatusFound.{ResponseStatusFound}
-use Rattle.codes.specs.declared.response.ResponseStatusFound.TheVariants as statusFound
+use Rattle.codes.specs.declared.request_type.RequestType.{RequestType}
 
 -- the code of a response with this state and status: what every definition names that makes one
 abbrev pub response_code : ResponseState → ResponseStatus → FunctionCode
@@ -31,19 +22,19 @@ abbrev pub request_bits : ℕ → ℕ
 request_bits b = b / 128 * 128 + b % 16
 
 -- a request has a type that is named; its frame count bit is any
-abbrev pub request_of : FrameCountBit → RequestTypeFound → FunctionCodeFound
-request_of fcb (requestFound.Is req) = Is (Request fcb req)
-request_of fcb requestFound.Nothing = Nothing
+abbrev pub request_of : FrameCountBit → Option RequestType → Option FunctionCode
+request_of fcb (Some req) = Some (Request fcb req)
+request_of fcb None = None
 
 -- a response has a state and a status that are named
-abbrev pub response_of : ResponseStateFound → ResponseStatusFound → FunctionCodeFound
-response_of (stateFound.Is state) (statusFound.Is status) = Is (Response state status)
-response_of (stateFound.Is state) statusFound.Nothing = Nothing
-response_of stateFound.Nothing status = Nothing
+abbrev pub response_of : Option ResponseState → Option ResponseStatus → Option FunctionCode
+response_of (Some state) (Some status) = Some (Response state status)
+response_of (Some state) None = None
+response_of None status = None
 
 -- "Bit 6 set: request. The byte and 8F must be one of ... Bit 5 is FCB, bit 4 FCV. Bit 6 clear: response; bits 4 and 5
 -- the state 0 to 3, low four bits one of ...; bit 7 is ignored."
-unfoldable pub function_code_of : ℕ → FunctionCodeFound
+unfoldable pub function_code_of : ℕ → Option FunctionCode
 function_code_of b =
     if (bit 6 b)
     (request_of (frame_count_bit_of (bit 4 b) (bit 5 b)) (request_type_of (request_bits b)))
@@ -55,9 +46,9 @@ is_answered (Request fcb req) = expects_reply req
 is_answered (Response state status) = false
 
 -- the same of what a byte is read as
-abbrev pub reply_found : FunctionCodeFound → ReplyFound
-reply_found (Is code) = replyTo.Is (is_answered code)
-reply_found Nothing = replyTo.Nothing
+abbrev pub reply_found : Option FunctionCode → Option Bool
+reply_found (Some code) = Some (is_answered code)
+reply_found None = None
 
 -- FCB at bit 5, FCV at bit 4
 abbrev pub frame_count_part : FrameCountBit → ℕ
@@ -78,9 +69,9 @@ abbrev pub kept_byte : ℕ → ℕ
 kept_byte b = if (bit 6 b) b (b % 128)
 
 -- "So 120 of 256 bytes are read": whether a byte is
-abbrev pub is_read : FunctionCodeFound → Bool
-is_read (Is code) = true
-is_read Nothing = false
+abbrev pub is_read : Option FunctionCode → Bool
+is_read (Some code) = true
+is_read None = false
 
 -- and how many of the n bytes from b on are
 unfoldable pub read_from : ℕ → ℕ → ℕ

@@ -1,10 +1,8 @@
 -- Document 01, "Function code": the request types and their numbers, `request_number`, and which expect a reply.
-use Rattle.std.specs.Prelude.{ℕ, Bool, true, false, List, [], ◌∷◌}
+use Rattle.std.specs.Prelude.{ℕ, Bool, true, false, List, [], ◌∷◌, None, Option, Some}
 use Rattle.ground.specs.Lookup.{lookup}
 use Rattle.codes.specs.declared.request_type.RequestType.{RequestType}
 use Rattle.codes.specs.declared.request_type.RequestType.TheVariants.{ClockValue, TimeEvent, SdaLow, SdnLow, SdaHigh, SdnHigh, MulticastSrd, FdlStatus, SrdLow, SrdHigh, Ident, LsapStatus}
-use Rattle.codes.specs.declared.request_type.RequestTypeFound.{RequestTypeFound}
-use Rattle.codes.specs.declared.request_type.RequestTypeFound.TheVariants.{Is, Nothing}
 
 -- "one of 80, 0, 3, 4, 5, 6, 7, 9, C, D, E, F"
 abbrev pub request_number : RequestType → ℕ
@@ -38,8 +36,8 @@ request_types =
     ∷ []
 
 -- the request type that has the number
-unfoldable pub request_type_of : ℕ → RequestTypeFound
-request_type_of = lookup request_number Is Nothing request_types
+unfoldable pub request_type_of : ℕ → Option RequestType
+request_type_of = lookup request_number Some None request_types
 
 -- "Replies are expected for all requests but 80, 0, 4 and 6"
 abbrev pub expects_reply : RequestType → Bool

@@ -1,14 +1,10 @@
 -- Document 01, "Function code": a response's state and status, and their numbers, `state_number` and `status_number`.
-use Rattle.std.specs.Prelude.{ℕ, List, [], ◌∷◌}
+use Rattle.std.specs.Prelude.{ℕ, List, [], ◌∷◌, None, Option, Some}
 use Rattle.ground.specs.Lookup.{lookup}
 use Rattle.codes.specs.declared.response.ResponseState.{ResponseState}
 use Rattle.codes.specs.declared.response.ResponseState.TheVariants.{Slave, MasterNotReady, MasterWithoutToken, MasterInRing}
-use Rattle.codes.specs.declared.response.ResponseStateFound.{ResponseStateFound}
-use Rattle.codes.specs.declared.response.ResponseStateFound.TheVariants as stateFound
 use Rattle.codes.specs.declared.response.ResponseStatus.{ResponseStatus}
 use Rattle.codes.specs.declared.response.ResponseStatus.TheVariants.{Ok, UserError, NoResources, SapNotEnabled, DataLow, NoDataReady, DataHigh, NotReceivedDataLow, NotReceivedDataHigh}
-use Rattle.codes.specs.declared.response.ResponseStatusFound.{ResponseStatusFound}
-use Rattle.codes.specs.declared.response.ResponseStatusFound.TheVariants as statusFound
 
 -- "the state 0 to 3"
 abbrev pub state_number : ResponseState → ℕ
@@ -21,8 +17,8 @@ abbrev pub response_states : List ResponseState
 response_states = Slave ∷ MasterNotReady ∷ MasterWithoutToken ∷ MasterInRing ∷ []
 
 -- the state that has the number
-unfoldable pub state_of : ℕ → ResponseStateFound
-state_of = lookup state_number stateFound.Is stateFound.Nothing response_states
+unfoldable pub state_of : ℕ → Option ResponseState
+state_of = lookup state_number Some None response_states
 
 -- "low four bits one of 0, 1, 2, 3, 8, 9, A, C, D"
 abbrev pub status_number : ResponseStatus → ℕ
@@ -50,5 +46,5 @@ response_statuses =
     ∷ []
 
 -- the status that has the number
-unfoldable pub status_of : ℕ → ResponseStatusFound
-status_of = lookup status_number statusFound.Is statusFound.Nothing response_statuses
+unfoldable pub status_of : ℕ → Option ResponseStatus
+status_of = lookup status_number Some None response_statuses

@@ -5,19 +5,12 @@ ghost use Rattle.codes.specs.FrameCountBits.{shown_cycled, cycle_of, fcb_of, fcv
 use ground::Refusal;
 
 // Frame Count Bit: it detects lost messages and prevents duplication on either side.
-#[derive(Clone, Copy)]
+#[derive(Clone, Copy, Debug, PartialEq, Eq)]
 pub enum FrameCountBit {
     First,
     High,
     Low,
     Inactive,
-}
-
-// The bit after a cycle, or refusal 15.
-#[derive(Clone, Copy)]
-pub enum Cycled {
-    Next(FrameCountBit),
-    Refused(Refusal),
 }
 
 impl FrameCountBit {
@@ -27,54 +20,37 @@ impl FrameCountBit {
         FrameCountBit::First
     }
 
-    pub fn cycle(self) -> Cycled
+    pub fn cycle(self) -> Result<FrameCountBit, Refusal>
         ensures { shown_cycled result ≡ cycle_of self }
     {
         match self {
-            FrameCountBit::First => Cycled::Next(FrameCountBit::Low),
-            FrameCountBit::High => Cycled::Next(FrameCountBit::Low),
-            FrameCountBit::Low => Cycled::Next(FrameCountBit::High),
-            FrameCountBit::Inactive => Cycled::Refused(Refusal::CycleInactive),
+            FrameCountBit::First | FrameCountBit::High => Ok(FrameCountBit::Low),
+            FrameCountBit::Low => Ok(FrameCountBit::High),
+            FrameCountBit::Inactive => Err(Refusal::CycleInactive),
         }
     }
 
     pub fn fcb(self) -> bool
         ensures { result ≡ fcb_of self }
     {
-        match self {
-            FrameCountBit::First => true,
-            FrameCountBit::High => true,
-            FrameCountBit::Low => false,
-            FrameCountBit::Inactive => false,
-        }
+        matches!(self, FrameCountBit::First | FrameCountBit::High)
     }
 
     pub fn fcv(self) -> bool
         ensures { result ≡ fcv_of self }
     {
-        match self {
-            FrameCountBit::First => false,
-            FrameCountBit::High => true,
-            FrameCountBit::Low => true,
-            FrameCountBit::Inactive => false,
-        }
+        matches!(self, FrameCountBit::High | FrameCountBit::Low)
     }
 
+    // profirust's call: no `From` in its place.
     pub fn from_fcv_fcb(fcv: bool, fcb: bool) -> FrameCountBit
         ensures { result ≡ frame_count_bit_of fcv fcb }
     {
-        if fcv {
-            if fcb {
-                FrameCountBit::High
-            } else {
-                FrameCountBit::Low
-            }
-        } else {
-            if fcb {
-                FrameCountBit::First
-            } else {
-                FrameCountBit::Inactive
-            }
+        match (fcv, fcb) {
+            (false, false) => FrameCountBit::Inactive,
+            (false, true) => FrameCountBit::First,
+            (true, true) => FrameCountBit::High,
+            (true, false) => FrameCountBit::Low,
         }
     }
 }

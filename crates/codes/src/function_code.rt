@@ -1,6 +1,6 @@
 // The function code, to and from its byte, and whether a byte that is not decoded asks for a reply. Promise: `code_byte`,
 // `function_code_of`, `reply_found` and `response_code` in specs/FunctionCodes.antt.
-ghost use Rattle.std.specs.Prelude.{◌≡◌, ◌/◌, ◌%◌, ◌<◌, ◌==◌, slice_index};
+ghost use Rattle.std.specs.Prelude.{◌≡◌, ◌/◌, ◌%◌, ◌<◌, ◌==◌, slice_index, None, Some};
 ghost use Rattle.codes.specs.FrameCountBits.{frame_count_bit_of};
 ghost use Rattle.codes.specs.FunctionCodes.{code_byte, function_code_of, frame_count_part, reply_found, request_of, response_code, response_of};
 ghost use Rattle.codes.specs.RequestTypes.{request_type_of};
@@ -9,10 +9,10 @@ ghost use Rattle.ground.specs.Bits.{bit};
 ghost use Rattle.ground.specs.Pick.{if};
 
 use crate::frame_count_bit::FrameCountBit;
-use crate::request_type::{RequestType, RequestTypeFound};
-use crate::response::{ResponseState, ResponseStateFound, ResponseStatus, ResponseStatusFound};
+use crate::request_type::RequestType;
+use crate::response::{ResponseState, ResponseStatus};
 
-#[derive(Clone, Copy)]
+#[derive(Clone, Copy, Debug, PartialEq, Eq)]
 pub enum FunctionCode {
     // This marks a request telegram
     Request {
@@ -24,20 +24,6 @@ pub enum FunctionCode {
         state: ResponseState,
         status: ResponseStatus,
     },
-}
-
-// The function code of a byte, or nothing where the byte is not read.
-#[derive(Clone, Copy)]
-pub enum FunctionCodeFound {
-    Is(FunctionCode),
-    Nothing,
-}
-
-// Whether a reply is expected to the function code of a byte, or nothing where the byte is not read.
-#[derive(Clone, Copy)]
-pub enum ReplyFound {
-    Is(bool),
-    Nothing,
 }
 
 // FCB and FCV at their places in the byte.
@@ -53,41 +39,25 @@ fn frame_count_part(fcb: FrameCountBit) -> u8
 }
 
 // Of a request by the number of its type: the frame count bit has no part in it.
-fn request_reply(b: u8) -> ReplyFound
+#[tactic(auto, unfolding(crate::specs::RequestTypes::request_type_of))]
+fn request_reply(b: u8) -> Option<bool>
     ensures { result ≡ reply_found (request_of FrameCountBit.Inactive (request_type_of b)) }
 {
     match b {
-        0x80 => ReplyFound::Is(false),
-        0 => ReplyFound::Is(false),
-        3 => ReplyFound::Is(true),
-        4 => ReplyFound::Is(false),
-        5 => ReplyFound::Is(true),
-        6 => ReplyFound::Is(false),
-        7 => ReplyFound::Is(true),
-        9 => ReplyFound::Is(true),
-        12 => ReplyFound::Is(true),
-        13 => ReplyFound::Is(true),
-        14 => ReplyFound::Is(true),
-        15 => ReplyFound::Is(true),
-        _ => ReplyFound::Nothing,
+        0x80 | 0 | 4 | 6 => Some(false),
+        3 | 5 | 7 | 9 | 12..=15 => Some(true),
+        _ => None,
     }
 }
 
 // Of a response by the number of its status: two bits always name a state.
-fn response_reply(b: u8) -> ReplyFound
-    ensures { result ≡ reply_found (response_of (ResponseStateFound.Is ResponseState.Slave) (status_of b)) }
+#[tactic(auto, unfolding(crate::specs::Responses::status_of))]
+fn response_reply(b: u8) -> Option<bool>
+    ensures { result ≡ reply_found (response_of (Some ResponseState.Slave) (status_of b)) }
 {
     match b {
-        0 => ReplyFound::Is(false),
-        1 => ReplyFound::Is(false),
-        2 => ReplyFound::Is(false),
-        3 => ReplyFound::Is(false),
-        8 => ReplyFound::Is(false),
-        9 => ReplyFound::Is(false),
-        10 => ReplyFound::Is(false),
-        12 => ReplyFound::Is(false),
-        13 => ReplyFound::Is(false),
-        _ => ReplyFound::Nothing,
+        0..=3 | 8..=10 | 12 | 13 => Some(false),
+        _ => None,
     }
 }
 
@@ -96,6 +66,7 @@ fn response_reply(b: u8) -> ReplyFound
 // A   of a request FCB and FCV: 0 neither (Inactive), 1 FCV (Low), 2 FCB (First), 3 both (High); of a response its state
 // BB  the number of the request type, or of the status
 // `./run codes` says it in words. That every entry is the one that document 01's rule asks for is computed in the proof of `from_byte`.
+// (Document 01 asks for a const table of 256 numbers here, and its own number in each.)
 #[rattlefmt::skip]
 const CODES: [[u16; 16]; 16] = [
     //   _0      _1      _2      _3      _4      _5      _6      _7      _8      _9      _A      _B      _C      _D      _E      _F
@@ -125,33 +96,28 @@ fn at_column(row: [u16; 16], y: usize) -> u16
 }
 
 // What the digits of an entry say.
-fn entry_code(entry: u16) -> FunctionCodeFound
+fn entry_code(entry: u16) -> Option<FunctionCode>
     ensures { result ≡
-        if (entry / 4096 == 0) FunctionCodeFound.Nothing
+        if (entry / 4096 == 0) None
         (if (entry / 4096 == 1) (request_of (frame_count_bit_of (bit 8 entry) (bit 9 entry)) (request_type_of (entry % 256)))
         (response_of (state_of (entry / 256 % 4)) (status_of (entry % 256)))) }
 {
     let number = (entry % 256) as u8;
     if entry / 4096 == 0 {
-        return FunctionCodeFound::Nothing;
+        return None;
     }
     if entry / 4096 == 1 {
-        let RequestTypeFound::Is(req) = RequestType::from_u8(number) else {
-            return FunctionCodeFound::Nothing;
-        };
+        let req = RequestType::from_u8(number)?;
         let fcb = FrameCountBit::from_fcv_fcb(entry / 256 % 2 == 1, entry / 512 % 2 == 1);
-        return FunctionCodeFound::Is(FunctionCode::Request { fcb, req });
+        return Some(FunctionCode::Request { fcb, req });
     }
-    let ResponseStateFound::Is(state) = ResponseState::from_u8((entry / 256 % 4) as u8) else {
-        return FunctionCodeFound::Nothing;
-    };
-    let ResponseStatusFound::Is(status) = ResponseStatus::from_u8(number) else {
-        return FunctionCodeFound::Nothing;
-    };
-    FunctionCodeFound::Is(FunctionCode::Response { state, status })
+    let state = ResponseState::from_u8((entry / 256 % 4) as u8)?;
+    let status = ResponseStatus::from_u8(number)?;
+    Some(FunctionCode::Response { state, status })
 }
 
 impl FunctionCode {
+    // This and `from_byte` are profirust's calls: no `From` and `TryFrom` in their place.
     pub fn to_byte(self) -> u8
         ensures { result ≡ code_byte self }
     {
@@ -161,7 +127,7 @@ impl FunctionCode {
         }
     }
 
-    pub fn from_byte(b: u8) -> FunctionCodeFound
+    pub fn from_byte(b: u8) -> Option<FunctionCode>
         ensures { result ≡ function_code_of b }
     {
         let y = (b % 16) as usize;
@@ -189,7 +155,7 @@ impl FunctionCode {
     }
 
     // What a writer has to know of a byte that it passes on: no code is made of it.
-    pub fn reply_to_byte(b: u8) -> ReplyFound
+    pub fn reply_to_byte(b: u8) -> Option<bool>
         ensures { result ≡ reply_found (function_code_of b) }
     {
         if b / 64 % 2 == 0 {
@@ -198,6 +164,7 @@ impl FunctionCode {
         request_reply(b / 128 * 128 + b % 16)
     }
 
+    // Two calls that differ in the type alone: profirust has both.
     pub fn new_srd_low(fcb: FrameCountBit) -> FunctionCode
         ensures { result ≡ FunctionCode.Request fcb RequestType.SrdLow }
     {

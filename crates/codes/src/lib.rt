@@ -9,7 +9,7 @@ pub mod request_type;
 pub mod response;
 
 pub use frame_check::checksum;
-pub use frame_count_bit::{Cycled, FrameCountBit};
-pub use function_code::{FunctionCode, FunctionCodeFound, ReplyFound};
-pub use request_type::{RequestType, RequestTypeFound};
-pub use response::{ResponseState, ResponseStateFound, ResponseStatus, ResponseStatusFound};
+pub use frame_count_bit::FrameCountBit;
+pub use function_code::FunctionCode;
+pub use request_type::RequestType;
+pub use response::{ResponseState, ResponseStatus};

@@ -2,59 +2,54 @@
 ghost use Rattle.std.specs.Prelude.{◌≡◌};
 ghost use Rattle.codes.specs.RequestTypes.{request_number, request_type_of, expects_reply};
 
-#[derive(Clone, Copy)]
+#[derive(Clone, Copy, Debug, PartialEq, Eq)]
 pub enum RequestType {
     // Clock value
-    ClockValue,
+    ClockValue = 0x80,
     // Time event
-    TimeEvent,
+    TimeEvent = 0,
     // SDA (Send Data Acknowledged) with low priority
-    SdaLow,
+    SdaLow = 3,
     // SDN (Send Data Not acknowledged) with low priority
-    SdnLow,
+    SdnLow = 4,
     // SDA (Send Data Acknowledged) with high priority
-    SdaHigh,
+    SdaHigh = 5,
     // SDN (Send Data Not acknowledged) with high priority
-    SdnHigh,
+    SdnHigh = 6,
     // SRD (Send Request Data) with multicast reply
-    MulticastSrd,
+    MulticastSrd = 7,
     // Request FDL status
-    FdlStatus,
+    FdlStatus = 9,
     // SRD (Send Request Data) with low priority
-    SrdLow,
+    SrdLow = 12,
     // SRD (Send Request Data) with high priority
-    SrdHigh,
+    SrdHigh = 13,
     // Request ident
-    Ident,
+    Ident = 14,
     // Request LSAP status (deprecated)
-    LsapStatus,
-}
-
-// The request type of a number, or nothing where the number has none.
-#[derive(Clone, Copy)]
-pub enum RequestTypeFound {
-    Is(RequestType),
-    Nothing,
+    LsapStatus = 15,
 }
 
 impl RequestType {
-    pub fn from_u8(b: u8) -> RequestTypeFound
+    // profirust's call and answer: no `TryFrom` in its place.
+    #[tactic(auto, unfolding(crate::specs::RequestTypes::request_type_of))]
+    pub fn from_u8(b: u8) -> Option<RequestType>
         ensures { result ≡ request_type_of b }
     {
         match b {
-            0x80 => RequestTypeFound::Is(RequestType::ClockValue),
-            0 => RequestTypeFound::Is(RequestType::TimeEvent),
-            3 => RequestTypeFound::Is(RequestType::SdaLow),
-            4 => RequestTypeFound::Is(RequestType::SdnLow),
-            5 => RequestTypeFound::Is(RequestType::SdaHigh),
-            6 => RequestTypeFound::Is(RequestType::SdnHigh),
-            7 => RequestTypeFound::Is(RequestType::MulticastSrd),
-            9 => RequestTypeFound::Is(RequestType::FdlStatus),
-            12 => RequestTypeFound::Is(RequestType::SrdLow),
-            13 => RequestTypeFound::Is(RequestType::SrdHigh),
-            14 => RequestTypeFound::Is(RequestType::Ident),
-            15 => RequestTypeFound::Is(RequestType::LsapStatus),
-            _ => RequestTypeFound::Nothing,
+            0x80 => Some(RequestType::ClockValue),
+            0 => Some(RequestType::TimeEvent),
+            3 => Some(RequestType::SdaLow),
+            4 => Some(RequestType::SdnLow),
+            5 => Some(RequestType::SdaHigh),
+            6 => Some(RequestType::SdnHigh),
+            7 => Some(RequestType::MulticastSrd),
+            9 => Some(RequestType::FdlStatus),
+            12 => Some(RequestType::SrdLow),
+            13 => Some(RequestType::SrdHigh),
+            14 => Some(RequestType::Ident),
+            15 => Some(RequestType::LsapStatus),
+            _ => None,
         }
     }
 
@@ -62,39 +57,25 @@ impl RequestType {
     pub fn number(self) -> u8
         ensures { result ≡ request_number self }
     {
-        match self {
-            RequestType::ClockValue => 0x80,
-            RequestType::TimeEvent => 0,
-            RequestType::SdaLow => 3,
-            RequestType::SdnLow => 4,
-            RequestType::SdaHigh => 5,
-            RequestType::SdnHigh => 6,
-            RequestType::MulticastSrd => 7,
-            RequestType::FdlStatus => 9,
-            RequestType::SrdLow => 12,
-            RequestType::SrdHigh => 13,
-            RequestType::Ident => 14,
-            RequestType::LsapStatus => 15,
-        }
+        self as u8
     }
 
     pub fn expects_reply(self) -> bool
         ensures { result ≡ expects_reply self }
     {
         match self {
-            RequestType::ClockValue => false,
-            RequestType::TimeEvent => false,
-            RequestType::SdnLow => false,
-            RequestType::SdnHigh => false,
-
-            RequestType::SdaLow => true,
-            RequestType::SdaHigh => true,
-            RequestType::MulticastSrd => true,
-            RequestType::FdlStatus => true,
-            RequestType::SrdLow => true,
-            RequestType::SrdHigh => true,
-            RequestType::Ident => true,
-            RequestType::LsapStatus => true,
+            RequestType::ClockValue
+            | RequestType::TimeEvent
+            | RequestType::SdnLow
+            | RequestType::SdnHigh => false,
+            RequestType::SdaLow
+            | RequestType::SdaHigh
+            | RequestType::MulticastSrd
+            | RequestType::FdlStatus
+            | RequestType::SrdLow
+            | RequestType::SrdHigh
+            | RequestType::Ident
+            | RequestType::LsapStatus => true,
         }
     }
 }

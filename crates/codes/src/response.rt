@@ -2,35 +2,30 @@
 ghost use Rattle.std.specs.Prelude.{◌≡◌};
 ghost use Rattle.codes.specs.Responses.{state_number, state_of, status_number, status_of};
 
-#[derive(Clone, Copy)]
+#[derive(Clone, Copy, Debug, PartialEq, Eq)]
 pub enum ResponseState {
     // Slave
-    Slave,
+    Slave = 0,
     // Master is not ready
-    MasterNotReady,
+    MasterNotReady = 1,
     // Master is ready but has no token
-    MasterWithoutToken,
+    MasterWithoutToken = 2,
     // Master is ready and in token ring
-    MasterInRing,
-}
-
-// The state of a number, or nothing where the number has none.
-#[derive(Clone, Copy)]
-pub enum ResponseStateFound {
-    Is(ResponseState),
-    Nothing,
+    MasterInRing = 3,
 }
 
 impl ResponseState {
-    pub fn from_u8(b: u8) -> ResponseStateFound
+    // profirust's call and answer: no `TryFrom` in its place.
+    #[tactic(auto, unfolding(crate::specs::Responses::state_of))]
+    pub fn from_u8(b: u8) -> Option<ResponseState>
         ensures { result ≡ state_of b }
     {
         match b {
-            0 => ResponseStateFound::Is(ResponseState::Slave),
-            1 => ResponseStateFound::Is(ResponseState::MasterNotReady),
-            2 => ResponseStateFound::Is(ResponseState::MasterWithoutToken),
-            3 => ResponseStateFound::Is(ResponseState::MasterInRing),
-            _ => ResponseStateFound::Nothing,
+            0 => Some(ResponseState::Slave),
+            1 => Some(ResponseState::MasterNotReady),
+            2 => Some(ResponseState::MasterWithoutToken),
+            3 => Some(ResponseState::MasterInRing),
+            _ => None,
         }
     }
 
@@ -38,59 +33,49 @@ impl ResponseState {
     pub fn number(self) -> u8
         ensures { result ≡ state_number self }
     {
-        match self {
-            ResponseState::Slave => 0,
-            ResponseState::MasterNotReady => 1,
-            ResponseState::MasterWithoutToken => 2,
-            ResponseState::MasterInRing => 3,
-        }
+        self as u8
     }
 }
 
-#[derive(Clone, Copy)]
+#[derive(Clone, Copy, Debug, PartialEq, Eq)]
 pub enum ResponseStatus {
     // OK
-    Ok,
+    Ok = 0,
     // UE = User error
-    UserError,
+    UserError = 1,
     // RR = No resources
-    NoResources,
+    NoResources = 2,
     // RS = SAP not enabled
-    SapNotEnabled,
+    SapNotEnabled = 3,
     // DL = Data Low
-    DataLow,
+    DataLow = 8,
     // NR = No response data ready
-    NoDataReady,
+    NoDataReady = 9,
     // DH = Data High
-    DataHigh,
+    DataHigh = 10,
     // RDL = Data not received and data low
-    NotReceivedDataLow,
+    NotReceivedDataLow = 12,
     // RDH = Data not received and data high
-    NotReceivedDataHigh,
-}
-
-// The status of a number, or nothing where the number has none.
-#[derive(Clone, Copy)]
-pub enum ResponseStatusFound {
-    Is(ResponseStatus),
-    Nothing,
+    NotReceivedDataHigh = 13,
 }
 
 impl ResponseStatus {
-    pub fn from_u8(b: u8) -> ResponseStatusFound
+    // profirust's call and answer: no `TryFrom` in its place.
+    #[tactic(auto, unfolding(crate::specs::Responses::status_of))]
+    pub fn from_u8(b: u8) -> Option<ResponseStatus>
         ensures { result ≡ status_of b }
     {
         match b {
-            0 => ResponseStatusFound::Is(ResponseStatus::Ok),
-            1 => ResponseStatusFound::Is(ResponseStatus::UserError),
-            2 => ResponseStatusFound::Is(ResponseStatus::NoResources),
-            3 => ResponseStatusFound::Is(ResponseStatus::SapNotEnabled),
-            8 => ResponseStatusFound::Is(ResponseStatus::DataLow),
-            9 => ResponseStatusFound::Is(ResponseStatus::NoDataReady),
-            10 => ResponseStatusFound::Is(ResponseStatus::DataHigh),
-            12 => ResponseStatusFound::Is(ResponseStatus::NotReceivedDataLow),
-            13 => ResponseStatusFound::Is(ResponseStatus::NotReceivedDataHigh),
-            _ => ResponseStatusFound::Nothing,
+            0 => Some(ResponseStatus::Ok),
+            1 => Some(ResponseStatus::UserError),
+            2 => Some(ResponseStatus::NoResources),
+            3 => Some(ResponseStatus::SapNotEnabled),
+            8 => Some(ResponseStatus::DataLow),
+            9 => Some(ResponseStatus::NoDataReady),
+            10 => Some(ResponseStatus::DataHigh),
+            12 => Some(ResponseStatus::NotReceivedDataLow),
+            13 => Some(ResponseStatus::NotReceivedDataHigh),
+            _ => None,
         }
     }
 
@@ -98,16 +83,6 @@ impl ResponseStatus {
     pub fn number(self) -> u8
         ensures { result ≡ status_number self }
     {
-        match self {
-            ResponseStatus::Ok => 0,
-            ResponseStatus::UserError => 1,
-            ResponseStatus::NoResources => 2,
-            ResponseStatus::SapNotEnabled => 3,
-            ResponseStatus::DataLow => 8,
-            ResponseStatus::NoDataReady => 9,
-            ResponseStatus::DataHigh => 10,
-            ResponseStatus::NotReceivedDataLow => 12,
-            ResponseStatus::NotReceivedDataHigh => 13,
-        }
+        self as u8
     }
 }

@@ -1,5 +1,6 @@
 -- Our writer is one, `our_writer`, and there is no other: `one_data`, `one_token`, `one_confirmation`. Where SAPs and source are the standard's, so is what is
 -- written: `standard_written`, and a token: `standard_token`.
+use Rattle.std.proofs.Common.{None, Option}
 use Prim.Native.Nat.{ℕ, ◌<◌, ◌≤◌}
 use mathlib.Core.Bool.{Bool, true, false}
 use mathlib.Core.List.{List, []}
@@ -13,8 +14,6 @@ use Rattle.ground.specs.declared.address.Address.{Address}
 use Rattle.telegram.proofs.WrittenLaws.{pdu_drawn, pdu_after_write, written_draws_written, written_back, only_written_back}
 use Rattle.telegram.specs.Begins.{standard, written, SapMayBe, DrawsData, DrawsToken, StartOf, with_sd1, with_sd2, with_sd3}
 use Rattle.telegram.specs.Picture.{at_front, length_byte, telegram_bytes, token_bytes, confirmation_bytes}
-use Rattle.telegram.specs.declared.header.AddressOption.{AddressOption}
-use Rattle.telegram.specs.declared.header.AddressOption.TheVariants.{None}
 use Rattle.telegram.specs.declared.header.DataTelegramHeader.{DataTelegramHeader}
 use Rattle.telegram.specs.declared.kinds.TokenTelegram.{TokenTelegram}
 use Rattle.telegram_tx.proofs.WritingLaws.{refused_8_da, refused_8_sa, refused_9, refused_10, sent, refused_10_of, sent_of_lem}
@@ -40,7 +39,7 @@ our_picture h pdu da sa short =
     let its_pdu : draws.pdu ≡ pdu = sym (pdu_drawn [] draws) ∙ pdu_after_write h pdu da sa [] in
     record { draws = draws; its_pdu = its_pdu; as_written = only_written_back draws (ap (telegram_bytes h) its_pdu) }
 
-by_room : (t : List ℕ) (reply : AddressOption) (buf : List ℕ) → Sends t reply buf (record { answer = send_of t reply (length buf); buffer = left_of (send_of t reply (length buf)) t buf })
+by_room : (t : List ℕ) (reply : Option Address) (buf : List ℕ) → Sends t reply buf (record { answer = send_of t reply (length buf); buffer = left_of (send_of t reply (length buf)) t buf })
 by_room t reply buf = by_test (ltb (length buf) (length t)) refl
   where
     by_test :
@@ -93,7 +92,7 @@ our_writer =
 pub one_picture : {h : DataTelegramHeader} {pdu picture : List ℕ} → Pictures h pdu picture → telegram_bytes h pdu ≡ picture
 one_picture {h} p = ap (telegram_bytes h) (sym p.its_pdu) ∙ written_back p.draws p.as_written
 
-one_send : {t : List ℕ} {reply : AddressOption} {buf : List ℕ} {x y : Wrote} → Sends t reply buf x → Sends t reply buf y → x ≡ y
+one_send : {t : List ℕ} {reply : Option Address} {buf : List ℕ} {x y : Wrote} → Sends t reply buf x → Sends t reply buf y → x ≡ y
 one_send (fits a) (fits b) = refl
 one_send (fits a) (no_room b) = absurd (omega arith)
 one_send (no_room a) (fits b) = absurd (omega arith)

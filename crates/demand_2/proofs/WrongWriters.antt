@@ -1,4 +1,5 @@
 -- Writers for which demand 2 is refuted. Each is any writer that has the fault; since no two writers differ, it is refuted by what ours gives there.
+use Rattle.std.proofs.Common.{None, Option, Some}
 use Prim.Native.Nat.{ℕ}
 use mathlib.Core.List.{List, [], ◌∷◌}
 use mathlib.Core.Path.{◌≡◌, refl, sym, ◌∙◌, ap}
@@ -14,15 +15,14 @@ use Rattle.ground.specs.Part.{byte_at}
 use Rattle.ground.specs.Refusals.{gives, refused}
 use Rattle.telegram.specs.Picture.{head_bytes, covered_bytes, length_byte, start_bytes, telegram_bytes}
 use Rattle.telegram.specs.declared.header.DataTelegramHeader.{DataTelegramHeader}
-use Rattle.telegram.specs.declared.header.SapOption.{SapOption}
-use Rattle.telegram.specs.declared.header.SapOption.TheVariants.{Some, None}
 use Rattle.telegram_tx.specs.Writing.{send_of, write_of}
 use Rattle.telegram_tx.specs.declared.tx.TelegramTxResponse.{TelegramTxResponse}
 use Rattle.demand_2.proofs.OurWriter.{one_data, one_token, one_confirmation}
 use Rattle.demand_2.specs.Writers.{Writer, IsWriter}
+use Rattle.ground.specs.declared.address.Sap.{Sap}
 
 -- a header from 2 to an address, with these SAPs
-abbrev header : ℕ → SapOption → SapOption → DataTelegramHeader
+abbrev header : ℕ → Option Sap → Option Sap → DataTelegramHeader
 header da dsap ssap = record { da = record { 0 = da }; sa = record { 0 = 2 }; dsap = dsap; ssap = ssap; fc = Request First SrdLow }
 
 abbrev plain : DataTelegramHeader

@@ -1,12 +1,10 @@
 -- Demand 2 of any writer, `IsWriter`: what each call answers and how it leaves the lent buffer. A telegram is the standard's picture of the header and
 -- PDU given, but for SAPs and addresses, which are the caller's. No two writers differ (`one_writer` of proofs/OurWriter.antt).
-use Rattle.std.specs.Prelude.{ℕ, ◌<◌, ◌≤◌, List, ◌++◌, ◌⊎◌, ◌≡◌, length, drop}
+use Rattle.std.specs.Prelude.{ℕ, ◌<◌, ◌≤◌, List, ◌++◌, ◌⊎◌, ◌≡◌, length, drop, None, Option}
 use Rattle.ground.specs.Refusals.{OrRefused, gives, refused}
 use Rattle.ground.specs.declared.address.Address.{Address}
 use Rattle.telegram.specs.Begins.{written, DrawsData, AsWritten}
 use Rattle.telegram.specs.Picture.{at_front, length_byte, token_bytes, confirmation_bytes}
-use Rattle.telegram.specs.declared.header.AddressOption.{AddressOption}
-use Rattle.telegram.specs.declared.header.AddressOption.TheVariants.{None}
 use Rattle.telegram.specs.declared.header.DataTelegramHeader.{DataTelegramHeader}
 use Rattle.telegram_tx.specs.Writing.{reply_of}
 use Rattle.telegram_tx.specs.declared.tx.TelegramTxResponse.{TelegramTxResponse}
@@ -27,7 +25,7 @@ abbrev pub refusing : ℕ → List ℕ → Wrote
 refusing number buf = record { answer = refused number; buffer = buf }
 
 -- bytes sent: at the buffer's front, and "bytes past the telegram stay"; with the station from which a reply is expected, if from one
-abbrev pub sending : List ℕ → AddressOption → List ℕ → Wrote
+abbrev pub sending : List ℕ → Option Address → List ℕ → Wrote
 sending t reply buf =
     record {
       answer = gives (record { bytes_sent = length t; expects_reply = reply });
@@ -42,7 +40,7 @@ pub record Pictures (h : DataTelegramHeader) (pdu picture : List ℕ) : Type 0 w
   pub as_written : AsWritten draws
 
 -- The bytes are written where they fit, and "buffer too short": 10.
-pub data Sends (t : List ℕ) (reply : AddressOption) (buf : List ℕ) : Wrote → Type 0 where
+pub data Sends (t : List ℕ) (reply : Option Address) (buf : List ℕ) : Wrote → Type 0 where
   fits : length t ≤ length buf → Sends t reply buf (sending t reply buf)
   no_room : length buf < length t → Sends t reply buf (refusing 10 buf)
 

@@ -35,6 +35,6 @@ determined =
       iter_diag_blocks = seen (λ κs x y e i. record { cursor = e i }) (λ κs a u v. refl);
       is_available = fixed (λ κs a u v. refl);
       raw_diag_buffer = shows (λ κs a u v. refl);
-      fill = turned (λ κs x y b c e. (λ i. record { filled = (e i).answer; diag = record { length = (e i).walked } }, λ i. (e i).store)) (λ κs a u v p i. (tt, (p i, (tt, tt))));
+      fill = turned (λ κs x y b c e. (λ i. record { answer = (e i).answer; after = record { length = (e i).walked } }, λ i. (e i).store)) (λ κs a u v p i. (tt, (p i, (tt, tt))));
       next = seen (λ κs. shown_step_injective) (λ κs a u v. refl);
     }

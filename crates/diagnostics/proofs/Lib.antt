@@ -23,6 +23,5 @@ pub mod RowWalked
 pub mod WalkSays
 -- the walk by its first step, and that it has steps enough
 pub mod Walks
--- a step at a header, by its kind; filling, test by test
+-- a step at a header, by its kind
 pub mod Headers
-pub mod StoreLaws

@@ -3,7 +3,7 @@
 use mathlib.Core.Path.{◌≡◌, refl, ap, sym, ◌∙◌}
 use mathlib.Core.Bool.{true, false}
 use mathlib.Core.List.{List, [], ◌∷◌, ◌++◌}
-use mathlib.Core.Option.{some}
+use Rattle.std.specs.Prelude.{Some}
 use lib.ListN.{replicate}
 use Rattle.ground.specs.Part.{shown_part}
 use Rattle.diagnostics_blocks.specs.Modules.{bit_of, modules_of, first_of}
@@ -39,7 +39,7 @@ pub record BadInput : Type 0 where
   pub no_such_module : bit_of (0xFF ∷ []) 8 ≡ false
   -- a body longer than any block's: its first module behind 62 bytes is set, and is found
   pub long_body_set : bit_of (replicate 62 0 ++ 0x01 ∷ []) 496 ≡ true
-  pub long_body_found : first_of (replicate 62 0 ++ 0x01 ∷ []) 0 ≡ some 496
+  pub long_body_found : first_of (replicate 62 0 ++ 0x01 ∷ []) 0 ≡ Some 496
 
 pub bad_input : BadInput
 unfolding fill_of step_of headed_by block_at length_of shown_part bit_of modules_of first_of

@@ -3,7 +3,7 @@
 use mathlib.Core.Path.{◌≡◌, refl}
 use mathlib.Core.Bool.{Bool, true, false}
 use mathlib.Core.List.{List, ◌∷◌}
-use mathlib.Core.Option.{Option, some, none}
+use Rattle.std.specs.Prelude.{None, Option, Some}
 use Prim.Native.Nat.{ℕ, zero, suc, ◌+◌, ◌-◌, ◌/◌, ◌^◌, ◌≤◌, ◌<◌}
 use native.Mathlib.Decide.{dec_lt, ℕ_discrete}
 use native.Mathlib.Numerals.{add-one}
@@ -18,8 +18,8 @@ use Rattle.diagnostics.proofs.Steps.{clash}
 -- what an answer of the search says of the k modules from a number
 data Searched (body : List ℕ) (k from : ℕ) : Option ℕ → Type 0 where
   first : (m : ℕ) → from ≤ m → m < from + k → bit_of body m ≡ true → ((j : ℕ) → from ≤ j → j < m → bit_of body j ≡ false)
-      → Searched body k from (some m)
-  without : ((j : ℕ) → from ≤ j → j < from + k → bit_of body j ≡ false) → Searched body k from none
+      → Searched body k from (Some m)
+  without : ((j : ℕ) → from ≤ j → j < from + k → bit_of body j ≡ false) → Searched body k from None
 
 module _ (body : List ℕ) where
   clear_from : (from : ℕ) (P : ℕ → Type 0) → bit_of body from ≡ false → ((j : ℕ) → suc from ≤ j → P j → bit_of body j ≡ false) → (j : ℕ)
@@ -36,7 +36,7 @@ module _ (body : List ℕ) where
   one_on k from here (without clear) = without (λ j h p. clear_from from (λ (i : ℕ). i < suc from + k) here clear j h (omega arith))
 
   by_bit : (k from : ℕ) (b : Bool) → bit_of body from ≡ b → Searched body k (suc from) (first_of_next body k (suc from))
-      → Searched body (suc k) from (if b (some from) (first_of_next body k (suc from)))
+      → Searched body (suc k) from (if b (Some from) (first_of_next body k (suc from)))
   by_bit k from true set rest = first from (omega arith) (omega arith) set (λ j h p. absurd (omega arith))
   by_bit k from false clear rest = one_on k from clear rest
 
@@ -44,7 +44,7 @@ module _ (body : List ℕ) where
   searched zero from = without (λ j h p. absurd (omega arith))
   searched (suc k) from = by_bit k from (bit_of body from) refl (searched k (suc from))
 
-first_by : {body : List ℕ} {k from : ℕ} {o : Option ℕ} (m : ℕ) → Searched body k from o → o ≡ some m → FirstSet body from m
+first_by : {body : List ℕ} {k from : ℕ} {o : Option ℕ} (m : ℕ) → Searched body k from o → o ≡ Some m → FirstSet body from m
 first_by n (first m low high set clear) e =
     let same : m ≡ n = cc in
     rw (← same) (record { above = low; is_set = set; clear_before = clear })
@@ -52,18 +52,18 @@ first_by n (without clear) e =
     clash (cc)
 
 -- the module that is answered is the first that is set at or above the number
-pub first_module : (body : List ℕ) (from m : ℕ) → first_of body from ≡ some m → FirstSet body from m
+pub first_module : (body : List ℕ) (from m : ℕ) → first_of body from ≡ Some m → FirstSet body from m
 unfolding first_of
 first_module body from m e = first_by m (searched body (modules_of body - from) from) e
 
-clear_by : {body : List ℕ} {k from : ℕ} {o : Option ℕ} → Searched body k from o → o ≡ none → (j : ℕ) → from ≤ j → j < from + k
+clear_by : {body : List ℕ} {k from : ℕ} {o : Option ℕ} → Searched body k from o → o ≡ None → (j : ℕ) → from ≤ j → j < from + k
     → bit_of body j ≡ false
 clear_by (first m low high set clear) e j h p =
     clash (cc)
 clear_by (without clear) e j h p = clear j h p
 
 -- where none is answered, no module at or above the number is set, of any number that can be asked for
-pub no_module : (body : List ℕ) (from : ℕ) → first_of body from ≡ none → (j : ℕ) → from ≤ j → j < 2 ^ 64 → bit_of body j ≡ false
+pub no_module : (body : List ℕ) (from : ℕ) → first_of body from ≡ None → (j : ℕ) → from ≤ j → j < 2 ^ 64 → bit_of body j ≡ false
 unfolding first_of
 no_module body from e j h small = by (dec_lt (j / 8) (length body))
   where
@@ -75,7 +75,7 @@ no_module body from e j h small = by (dec_lt (j / 8) (length body))
 
 asked_by : (body : List ℕ) (k from : ℕ) (b : Bool) → modules_of body - from ≡ suc k
     → set_of_next body k (suc from) ≡ asked body (first_of_next body k (suc from))
-    → if b (from ∷ set_of_next body k (suc from)) (set_of_next body k (suc from)) ≡ asked body (if b (some from) (first_of_next body k (suc from)))
+    → if b (from ∷ set_of_next body k (suc from)) (set_of_next body k (suc from)) ≡ asked body (if b (Some from) (first_of_next body k (suc from)))
 unfolding set_from
 asked_by body k from true left rest =
     let less : modules_of body - (from + 1) ≡ k = omega arith in

@@ -10,7 +10,9 @@ use Rattle.diagnostics.specs.Walk.{PlacedBlock, Stepped, at_end, block, broken, 
 use Rattle.diagnostics.specs.Shown.{shown_block, shown_found, shown_step}
 use Rattle.diagnostics.specs.declared.walk.ExtDiagBlock.{ExtDiagBlock}
 use Rattle.diagnostics.specs.declared.walk.Found.TheVariants.{Block}
-use Rattle.diagnostics.specs.declared.walk.Step.{Step}
+use Rattle.diagnostics.specs.declared.walk.ExtDiagBlockIter.{ExtDiagBlockIter}
+use Rattle.diagnostics.specs.declared.walk.Found.{Found}
+use Rattle.ground.specs.declared.returned.Returned.{Returned}
 use Rattle.diagnostics.proofs.Steps.{StepCase, ended, found, refusal, step_case, step_found, step_stays}
 
 module _ (k : ℕ) (s : List ℕ) (at : ℕ) where
@@ -49,9 +51,9 @@ walk_long_enough (suc k) s h = by (dec_lt (length s) k) (walk_long_enough k s)
         rw same
 
 -- a loop over the blocks ends: what is left to walk falls at each block that is found
-pub block_falls : (s : List ℕ) (at : ℕ) (step : Step) (b : ExtDiagBlock) → shown_step step ≡ step_of s at → step.found ≡ Block b
-    → length s - step.iter.cursor < length s - at
+pub block_falls : (s : List ℕ) (at : ℕ) (step : Returned Found ExtDiagBlockIter) (b : ExtDiagBlock) → shown_step step ≡ step_of s at → step.answer ≡ Block b
+    → length s - step.after.cursor < length s - at
 block_falls s at step b e f =
     let answer : (step_of s at).answer ≡ block (shown_block b) = ap (λ (x : Stepped). x.answer) (sym e) ∙ ap shown_found f in
-    let cursor : step.iter.cursor ≡ (step_of s at).cursor = ap (λ (x : Stepped). x.cursor) e in
+    let cursor : step.after.cursor ≡ (step_of s at).cursor = ap (λ (x : Stepped). x.cursor) e in
     omega (arith, (step_found s at _ answer).moves, (step_found s at _ answer).within)

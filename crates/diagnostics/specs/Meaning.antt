@@ -1,7 +1,6 @@
 -- What the rules of the walk mean for whoever walks, and for a body's modules. The theorems that tie the two are in proofs/Steps.antt,
 -- Bodies.antt and Searches.antt.
-use Rattle.std.specs.Prelude.{ℕ, zero, suc, ◌+◌, ◌-◌, ◌≤◌, ◌<◌, true, false, List, [], ◌∷◌, ◌≡◌, length}
-use Rattle.std.proofs.Math.Option.{Option, some, none}
+use Rattle.std.specs.Prelude.{ℕ, zero, suc, ◌+◌, ◌-◌, ◌≤◌, ◌<◌, true, false, List, [], ◌∷◌, ◌≡◌, length, Option, Some, None}
 use Rattle.ground.specs.Pick.{if}
 use Rattle.diagnostics_blocks.specs.Modules.{bit_of, modules_of}
 use Rattle.diagnostics.specs.Walk.{PlacedBlock, device_at, identifier_at, step_of}
@@ -47,5 +46,5 @@ set_from body from = set_of_next body (modules_of body - from) from
 
 -- what asking once gives: the first module set, and then those set above it
 abbrev pub asked : List ℕ → Option ℕ → List ℕ
-asked body none = []
-asked body (some m) = m ∷ set_from body (m + 1)
+asked body None = []
+asked body (Some m) = m ∷ set_from body (m + 1)

@@ -6,7 +6,8 @@ use Rattle.diagnostics.specs.declared.walk.ExtDiagBlock.{ExtDiagBlock}
 use Rattle.diagnostics.specs.declared.walk.ExtDiagBlock.TheVariants as blocks
 use Rattle.diagnostics.specs.declared.walk.Found.{Found}
 use Rattle.diagnostics.specs.declared.walk.Found.TheVariants.{Block, End, Refused}
-use Rattle.diagnostics.specs.declared.walk.Step.{Step}
+use Rattle.diagnostics.specs.declared.walk.ExtDiagBlockIter.{ExtDiagBlockIter}
+use Rattle.ground.specs.declared.returned.Returned.{Returned}
 
 abbrev pub shown_block : ExtDiagBlock → PlacedBlock
 shown_block (blocks.Identifier body) = identifier_at body.start body.len
@@ -18,5 +19,5 @@ shown_found (Block b) = block (shown_block b)
 shown_found End = at_end
 shown_found (Refused refusal) = refused (number_of refusal)
 
-abbrev pub shown_step : Step → Stepped
-shown_step step = record { answer = shown_found step.found; cursor = step.iter.cursor }
+abbrev pub shown_step : Returned Found ExtDiagBlockIter → Stepped
+shown_step step = record { answer = shown_found step.answer; cursor = step.after.cursor }

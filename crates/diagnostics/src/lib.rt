@@ -5,5 +5,5 @@
 pub mod store;
 pub mod walk;
 
-pub use store::{ExtendedDiagnostics, Filled};
-pub use walk::{ExtDiagBlock, ExtDiagBlockIter, Found, Step};
+pub use store::ExtendedDiagnostics;
+pub use walk::{ExtDiagBlock, ExtDiagBlockIter, Found};

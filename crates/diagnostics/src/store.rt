@@ -2,20 +2,13 @@
 ghost use Rattle.std.specs.Prelude.{◌≡◌};
 ghost use Rattle.diagnostics.specs.Store.{available_of, fill_of, walked_of};
 
-use ground::copy_to_front;
+use ground::Returned;
 
 // Container for extended diagnostics data: how many bytes at the front of the store that the caller lends are
 // diagnostics. Any number is answered; one above the store's length counts as the store's.
-#[derive(Clone, Copy)]
+#[derive(Clone, Copy, Debug, PartialEq, Eq)]
 pub struct ExtendedDiagnostics {
     pub length: usize,
-}
-
-// What filling a store leaves: whether it took the data, and the container as it then is.
-#[derive(Clone, Copy)]
-pub struct Filled {
-    pub filled: bool,
-    pub diag: ExtendedDiagnostics,
 }
 
 impl ExtendedDiagnostics {
@@ -38,11 +31,7 @@ impl ExtendedDiagnostics {
     pub fn raw_diag_buffer(self, buffer: &[u8]) -> &[u8]
         ensures { result.now ≡ walked_of self.length buffer.now }
     {
-        let length = self.length;
-        if buffer.len() < length {
-            return buffer;
-        }
-        &buffer[..length]
+        &buffer[..self.length.min(buffer.len())]
     }
 
     // The container after its store was taken back. The slice was the caller's all along, and its bytes stay.
@@ -53,25 +42,24 @@ impl ExtendedDiagnostics {
         self
     }
 
-    // The store filled with what a peripheral reported, where there is a store and the data fit it.
-    pub fn fill(self, buffer: &mut [u8], buf: &[u8]) -> Filled
-        ensures { record { answer = result.filled; walked = result.diag.length; store = buffer.new } ≡ fill_of buffer.old self.length buf.now }
+    // The store filled with what a peripheral reported, where there is a store and the data fit it: whether it took the data, and the
+    // container as it then is.
+    // (A bool is what profirust's `fill` answers.)
+    #[tactic(auto, unfolding(crate::specs::Store::fill_of))]
+    pub fn fill(self, buffer: &mut [u8], buf: &[u8]) -> Returned<bool, ExtendedDiagnostics>
+        ensures { record { answer = result.answer; walked = result.after.length; store = buffer.new } ≡ fill_of buffer.old self.length buf.now }
     {
-        let kept = Filled {
-            filled: false,
-            diag: self,
-        };
-        if buffer.len() == 0 {
-            // No store for extended diagnostics, so they are ignored entirely.
-            return kept;
+        // Without a store the extended diagnostics are ignored entirely.
+        if buffer.is_empty() || buffer.len() < buf.len() {
+            return Returned {
+                answer: false,
+                after: self,
+            };
         }
-        if buffer.len() < buf.len() {
-            return kept;
-        }
-        copy_to_front(buf, buffer);
-        Filled {
-            filled: true,
-            diag: ExtendedDiagnostics { length: buf.len() },
+        buffer[..buf.len()].copy_from_slice(buf);
+        Returned {
+            answer: true,
+            after: ExtendedDiagnostics { length: buf.len() },
         }
     }
 }

@@ -1,8 +1,8 @@
 -- Laws of an identifier block's bits and of the search for the first that is set.
-use mathlib.Core.Path.{◌≡◌, ◌∙◌}
+use mathlib.Core.Path.{◌≡◌}
 use mathlib.Core.Bool.{true, false}
 use mathlib.Core.List.{List}
-use mathlib.Core.Option.{some, none}
+use Rattle.std.specs.Prelude.{Some, None}
 use Prim.Native.Nat.{ℕ, suc, ◌+◌, ◌-◌, ◌*◌, ◌/◌, ◌^◌, ◌≤◌, ◌<◌}
 use native.Mathlib.Decide.{dec_lt}
 use native.Mathlib.Nat.{zero-div}
@@ -56,31 +56,18 @@ numbered_by (all_numbers more) = omega arith
 pub modules_numbered : (body : List ℕ) → modules_of body ≤ 2 ^ 64
 modules_numbered body = numbered_by (counted body)
 
--- after each module fewer are left
-pub fewer_left : (end at : ℕ) → at < end → end - (at + 1) < end - at
-fewer_left end at h = omega arith
-
 -- one module is left at least
 one_more : (end at : ℕ) → at < end → end - at ≡ suc (end - suc at)
 one_more end at h = omega arith
 
-pub first_here : (body : List ℕ) (end at : ℕ) → at < end → bit_of body at ≡ true → first_of_next body (end - at) at ≡ some at
+pub first_here : (body : List ℕ) (end at : ℕ) → at < end → bit_of body at ≡ true → first_of_next body (end - at) at ≡ Some at
 first_here body end at h set = rw (one_more end at h, set)
 
 pub first_later : (body : List ℕ) (end at : ℕ) → at < end → bit_of body at ≡ false
     → first_of_next body (end - at) at ≡ first_of_next body (end - (at + 1)) (at + 1)
 first_later body end at h clear = rw (one_more end at h, clear, add-one)
 
-pub first_none : (body : List ℕ) (end at : ℕ) → end ≤ at → first_of_next body (end - at) at ≡ none
+pub first_none : (body : List ℕ) (end at : ℕ) → end ≤ at → first_of_next body (end - at) at ≡ None
 first_none body end at h =
     let z : end - at ≡ 0 = omega arith in
     rw z
-
--- behind the last number there is no module
-pub first_last : (body : List ℕ) (at : ℕ) → at + 1 ≡ 2 ^ 64 → bit_of body at ≡ false → first_of_next body (modules_of body - at) at ≡ none
-first_last body at last clear = by (dec_lt at (modules_of body))
-  where
-    by : Dec (at < modules_of body) → first_of_next body (modules_of body - at) at ≡ none
-    by (yes inside) =
-        first_later body (modules_of body) at inside clear ∙ first_none body (modules_of body) (at + 1) (omega (arith, modules_numbered body))
-    by (no past) = first_none body (modules_of body) at (omega arith)

@@ -1,6 +1,6 @@
 -- No second outcome fits the promise of a public call of `diagnostics_blocks`: two outcomes that its promise allows are the same.
 use mathlib.Core.Path.{refl}
-use Rattle.diagnostics_blocks.proofs.Shows.{shown_channel_injective, shown_error_injective, shown_module_injective, shown_type_injective}
+use Rattle.diagnostics_blocks.proofs.Shows.{shown_channel_injective, shown_error_injective, shown_type_injective}
 use Rattle.diagnostics_blocks.specs.contracts.channel.ChannelDataType.from_diag_byte2 as type_from_byte
 use Rattle.diagnostics_blocks.proofs.channel.ChannelDataType.from_diag_byte2.Reads as type_from_byte_reads
 use Rattle.diagnostics_blocks.specs.contracts.channel.ChannelDataType.into_diag_byte2 as type_into_byte
@@ -31,7 +31,7 @@ pub determined : Calls
 determined =
     record {
       is_set = fixed (λ κs a u v. refl);
-      first_set = seen (λ κs. shown_module_injective) (λ κs a u v. refl);
+      first_set = fixed (λ κs a u v. refl);
       type_from_byte = seen (λ κs. shown_type_injective) (λ κs a u v. refl);
       type_into_byte = fixed (λ κs a u v. refl);
       error_from_byte = seen (λ κs. shown_error_injective) (λ κs a u v. refl);

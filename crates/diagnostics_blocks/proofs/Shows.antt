@@ -2,19 +2,16 @@
 -- function takes each back. Read the laws that end in `-injective`.
 use mathlib.Core.Path.{◌≡◌, refl}
 use mathlib.Core.List.{[], ◌∷◌}
-use mathlib.Core.Option.{Option, none, some}
 use Prim.Native.Nat.{ℕ, ◌-◌}
 use lib.ListN.{get_or}
 use Rattle.ground.proofs.Injective.{injective}
 use Rattle.diagnostics_blocks.specs.Channel.{Channel, Error, named, reserved, vendor}
-use Rattle.diagnostics_blocks.specs.Shown.{shown_channel, shown_error, shown_module, shown_type}
+use Rattle.diagnostics_blocks.specs.Shown.{shown_channel, shown_error, shown_type}
 use Rattle.diagnostics_blocks.specs.declared.channel.ChannelDataType.{ChannelDataType}
 use Rattle.diagnostics_blocks.specs.declared.channel.ChannelDataType.TheVariants.{Bit, Bit2, Bit4, Byte, Word, DWord, Invalid}
 use Rattle.diagnostics_blocks.specs.declared.channel.ChannelDiagnostics.{ChannelDiagnostics}
 use Rattle.diagnostics_blocks.specs.declared.channel.ChannelError.{ChannelError}
 use Rattle.diagnostics_blocks.specs.declared.channel.ChannelError.TheVariants as errors
-use Rattle.diagnostics_blocks.specs.declared.modules.Module.{Module}
-use Rattle.diagnostics_blocks.specs.declared.modules.Module.TheVariants.{At, Nothing}
 
 abbrev type_back : ℕ → ChannelDataType
 type_back n = get_or (Bit ∷ Bit2 ∷ Bit4 ∷ Byte ∷ Word ∷ DWord ∷ Invalid ∷ []) (n - 1) Invalid
@@ -69,15 +66,3 @@ channel_again x = rw (type_again x.dtype, error_again x.error)
 
 pub shown_channel_injective : (x y : ChannelDiagnostics) → shown_channel x ≡ shown_channel y → x ≡ y
 shown_channel_injective = injective shown_channel channel_back channel_again
-
-module_back : Option ℕ → Module
-module_back none = Nothing
-module_back (some n) = At n
-
-module_again : (x : Module) → module_back (shown_module x) ≡ x
-unfolding module_back
-module_again Nothing = refl
-module_again (At n) = refl
-
-pub shown_module_injective : (x y : Module) → shown_module x ≡ shown_module y → x ≡ y
-shown_module_injective = injective shown_module module_back module_again

@@ -1,6 +1,5 @@
 -- Document 01, "Diagnostics": the bits of an identifier block's body. Read `bit_of` and `first_of`.
-use Rattle.std.specs.Prelude.{ℕ, zero, suc, ◌-◌, ◌*◌, ◌/◌, ◌%◌, ◌^◌, Bool, List, length, leb, eqb}
-use Rattle.std.proofs.Math.Option.{Option, some, none}
+use Rattle.std.specs.Prelude.{ℕ, zero, suc, ◌-◌, ◌*◌, ◌/◌, ◌%◌, ◌^◌, Bool, List, length, leb, eqb, Option, Some, None}
 use Rattle.ground.specs.Pick.{if}
 use Rattle.ground.specs.Part.{byte_at}
 
@@ -14,8 +13,8 @@ modules_of body = if (leb (2 ^ 61) (length body)) (2 ^ 64) (8 * length body)
 
 -- the first of k modules from a number that is set
 abbrev pub first_of_next : List ℕ → ℕ → ℕ → Option ℕ
-first_of_next body zero from = none
-first_of_next body (suc k) from = if (bit_of body from) (some from) (first_of_next body k (suc from))
+first_of_next body zero from = None
+first_of_next body (suc k) from = if (bit_of body from) (Some from) (first_of_next body k (suc from))
 
 -- the first module set at or above a number
 unfoldable pub first_of : List ℕ → ℕ → Option ℕ

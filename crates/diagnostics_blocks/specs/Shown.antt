@@ -1,8 +1,5 @@
 -- The numbers and values of document 01 for each case of the code's answers. The names are those of profirust.
 use Rattle.std.specs.Prelude.{ℕ}
-use Rattle.std.proofs.Math.Option.{Option, some, none}
-use Rattle.diagnostics_blocks.specs.declared.modules.Module.{Module}
-use Rattle.diagnostics_blocks.specs.declared.modules.Module.TheVariants.{At, Nothing}
 use Rattle.diagnostics_blocks.specs.Channel.{Channel, Error, named, vendor, reserved}
 use Rattle.diagnostics_blocks.specs.declared.channel.ChannelDataType.{ChannelDataType}
 use Rattle.diagnostics_blocks.specs.declared.channel.ChannelDataType.TheVariants.{Bit, Bit2, Bit4, Byte, Word, DWord, Invalid}
@@ -43,8 +40,3 @@ shown_channel c = record {
   dtype = shown_type c.dtype;
   error = shown_error c.error;
 }
-
--- a module number, or none
-abbrev pub shown_module : Module → Option ℕ
-shown_module (At n) = some n
-shown_module Nothing = none

@@ -4,25 +4,24 @@ ghost use Rattle.diagnostics_blocks.specs.Channel.{channel_of, error_of, error_n
 ghost use Rattle.diagnostics_blocks.specs.Shown.{shown_channel, shown_error, shown_type};
 
 // Data type for a channel of a module.
-#[derive(Clone, Copy)]
+#[derive(Clone, Copy, Debug, PartialEq, Eq)]
 pub enum ChannelDataType {
-    Bit,
-    Bit2,
-    Bit4,
-    Byte,
-    Word,
-    DWord,
-    Invalid,
+    Bit = 1,
+    Bit2 = 2,
+    Bit4 = 3,
+    Byte = 4,
+    Word = 5,
+    DWord = 6,
+    Invalid = 7,
 }
 
 impl ChannelDataType {
-    // The type that the third byte of a channel block names.
+    // The type that the third byte of a channel block names. (This and the next are profirust's calls: no `From` in their place.)
     #[tactic(auto, unfolding(crate::specs::Channel::type_of))]
     pub fn from_diag_byte2(b: u8) -> Self
         ensures { shown_type result ≡ type_of (b / 32) }
     {
-        let dtype = b / 32;
-        match dtype {
+        match b / 32 {
             0b001 => ChannelDataType::Bit,
             0b010 => ChannelDataType::Bit2,
             0b011 => ChannelDataType::Bit4,
@@ -37,20 +36,12 @@ impl ChannelDataType {
     pub fn into_diag_byte2(self) -> u8
         ensures { result ≡ 32 * shown_type self }
     {
-        match self {
-            ChannelDataType::Bit => 0b001_00000,
-            ChannelDataType::Bit2 => 0b010_00000,
-            ChannelDataType::Bit4 => 0b011_00000,
-            ChannelDataType::Byte => 0b100_00000,
-            ChannelDataType::Word => 0b101_00000,
-            ChannelDataType::DWord => 0b110_00000,
-            ChannelDataType::Invalid => 0b111_00000,
-        }
+        32 * self as u8
     }
 }
 
 // Error diagnosed at a channel of a module.
-#[derive(Clone, Copy)]
+#[derive(Clone, Copy, Debug, PartialEq, Eq)]
 pub enum ChannelError {
     ShortCircuit,
     UnderVoltage,
@@ -66,7 +57,7 @@ pub enum ChannelError {
 }
 
 impl ChannelError {
-    // The error that the third byte of a channel block names.
+    // The error that the third byte of a channel block names. (This and the next are profirust's calls: no `From` in their place.)
     #[tactic(auto, unfolding(crate::specs::Channel::error_of))]
     pub fn from_diag_byte2(b: u8) -> Self
         ensures { shown_error result ≡ error_of (b % 32) }
@@ -101,14 +92,13 @@ impl ChannelError {
             ChannelError::UpperLimitOvershoot => 7,
             ChannelError::LowerLimitUndershoot => 8,
             ChannelError::Error => 9,
-            ChannelError::Vendor(v) => v,
-            ChannelError::Reserved(r) => r,
+            ChannelError::Vendor(n) | ChannelError::Reserved(n) => n,
         }
     }
 }
 
 // Diagnostic information for a module channel.
-#[derive(Clone, Copy)]
+#[derive(Clone, Copy, Debug, PartialEq, Eq)]
 pub struct ChannelDiagnostics {
     // Module where the problem was reported: its index in the configuration telegram.
     pub module: u8,

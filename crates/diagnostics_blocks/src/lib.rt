@@ -6,4 +6,3 @@ pub mod channel;
 pub mod modules;
 
 pub use channel::{ChannelDataType, ChannelDiagnostics, ChannelError};
-pub use modules::Module;

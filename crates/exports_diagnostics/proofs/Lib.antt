@@ -1,4 +1,2 @@
 -- no second outcome fits the promise of any public call
 pub mod Determined
--- a step, told
-mod CallLaws

@@ -3,42 +3,28 @@
 #![tactic(auto)]
 
 ghost use Rattle.std.specs.Prelude.{◌≡◌, [], ◌∷◌, ℕ};
-ghost use Rattle.ground.specs.Bits.{digit};
-ghost use Rattle.diagnostics_blocks.specs.Shown.{shown_channel, shown_type};
+ghost use Rattle.diagnostics_blocks.specs.Shown.{shown_channel};
 ghost use Rattle.diagnostics.specs.Shown.{shown_block, shown_found};
 ghost use Rattle.diagnostics.specs.Walk.{channel_is};
 ghost use Rattle.exports_diagnostics.specs.Calls.{koy_diagnostics_fill, koy_diagnostics_module, koy_diagnostics_step, step_call, told_of};
 
 use diagnostics::{ExtDiagBlock, ExtDiagBlockIter, ExtendedDiagnostics, Found};
-use diagnostics_blocks::{ChannelDataType, ChannelDiagnostics, modules};
+use diagnostics_blocks::{ChannelDiagnostics, modules};
 
 // The code at the end of the walk.
 pub const AT_END: u8 = 101;
 
-fn digit_of(on: bool) -> usize
-    ensures { result ≡ digit on }
-{
-    on as usize
-}
-
-fn type_number(dtype: ChannelDataType) -> u8
-    ensures { result ≡ shown_type dtype }
-{
-    dtype.into_diag_byte2() / 32
-}
-
+// The numbers of a block stand in an array: the C interface.
 fn channel_told(c: ChannelDiagnostics) -> [usize; 9]
     ensures { result ≡ told_of (channel_is (shown_channel c)) }
 {
-    let dtype = c.dtype;
-    let error = c.error;
     let module = c.module as usize;
     let channel = c.channel as usize;
-    let input = digit_of(c.input);
-    let output = digit_of(c.output);
-    let type_no = type_number(dtype) as usize;
-    let error_no = error.into_diag_byte2() as usize;
-    [3, 0, 0, module, channel, input, output, type_no, error_no]
+    let input = c.input as usize;
+    let output = c.output as usize;
+    let dtype = c.dtype as usize;
+    let error = c.error.into_diag_byte2() as usize;
+    [3, 0, 0, module, channel, input, output, dtype, error]
 }
 
 fn told_of(block: ExtDiagBlock) -> [usize; 9]
@@ -75,10 +61,8 @@ pub fn koy_diagnostics_step(
     let iter = ExtDiagBlockIter { cursor: cursor[0] };
     let diag = ExtendedDiagnostics { length: walked };
     let step = iter.next(diag, store);
-    let after = step.iter;
-    *cursor = [after.cursor];
-    let found = step.found;
-    tell(found, told)
+    *cursor = [step.after.cursor];
+    tell(step.answer, told)
 }
 
 pub fn koy_diagnostics_fill(store: &mut [u8], walked: &mut [usize; 1], bytes: &[u8]) -> bool
@@ -86,9 +70,8 @@ pub fn koy_diagnostics_fill(store: &mut [u8], walked: &mut [usize; 1], bytes: &[
 {
     let diag = ExtendedDiagnostics { length: walked[0] };
     let filled = diag.fill(store, bytes);
-    let after = filled.diag;
-    *walked = [after.length];
-    filled.filled
+    *walked = [filled.after.length];
+    filled.answer
 }
 
 pub fn koy_diagnostics_module(body: &[u8], module: usize) -> bool

@@ -1,4 +1,5 @@
-// The initiator with a stamp beside its record. Promises: `specs/InitiatorCalls.antt`.
+// The initiator with a stamp beside its record. (The calls differ from one another, and from those of the responder, in what the C interface lends
+// them.) Promises: `specs/InitiatorCalls.antt`.
 ghost use Rattle.std.specs.Prelude.{◌≡◌};
 ghost use Rattle.exports_guarded.specs.InitiatorCalls.{koy_guarded_initiator_new, koy_guarded_initiator_submit, koy_guarded_initiator_silence, koy_guarded_initiator_hear};
 

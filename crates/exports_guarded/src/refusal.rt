@@ -5,5 +5,5 @@ ghost use Rattle.exports_link.specs.Calls.{is_refusal};
 pub(crate) fn is_refusal(code: u8) -> bool
     ensures { result ≡ is_refusal code }
 {
-    if 0 < code { code < 100 } else { false }
+    0 < code && code < 100
 }

@@ -1,5 +1,6 @@
 -- A responder's record packed into bytes and unpacked is the same record. Its array has 246 bytes and its reply at most as many, which
 -- every call keeps. Read `responder_again`, and the laws `-kept` at the end.
+use Rattle.std.proofs.Common.{None, Option, Some}
 use Prim.Native.Nat.{ℕ, ◌≤◌}
 use mathlib.Core.Bool.{Bool, true, false}
 use mathlib.Core.List.{List, []}
@@ -29,8 +30,6 @@ use Rattle.responder_row.specs.declared.row.RowAction.{RowAction}
 use Rattle.responder_row.specs.declared.row.RowAction.TheVariants as action
 use Rattle.responder_row.specs.declared.row.RowState.{RowState}
 use Rattle.responder_row.specs.declared.row.RowState.TheVariants.{Blank, Opened, Owes, Holds}
-use Rattle.responder_row.specs.declared.row.StoredBit.{StoredBit}
-use Rattle.responder_row.specs.declared.row.StoredBit.TheVariants as stored
 use Rattle.responder.specs.declared.state.Responder.{Responder}
 use Rattle.exports_link.proofs.ByteLaws.{length_again}
 use Rattle.exports_link.specs.Bytes.{length_byte}
@@ -80,9 +79,9 @@ module _ (row : Row) (z : Sized row) where
   picked true x y p q = p
   picked false x y p q = q
 
-  order_sized : (s : StoredBit) (b : Bit) (q : Part) → Sized (order_on s b q row).row
-  order_sized stored.Nothing b q = z
-  order_sized (stored.Is c) b q =
+  order_sized : (s : Option Bit) (b : Bit) (q : Part) → Sized (order_on s b q row).row
+  order_sized None b q = z
+  order_sized (Some c) b q =
       picked (same_bit c b) (again_on row.state row) (other_on b q row) (again_sized row.state)
       (picked (wrong_length q.len) (ignoring row) (record { action = action.HandUp q; row = dropping row (Owes b) }) z (dropped (Owes b)))
 

@@ -1,170 +1,108 @@
-// The initiator for programs in other languages. Promises: `specs/InitiatorCalls.antt`.
-ghost use Rattle.std.specs.Prelude.{◌≡◌, List, [], ◌∷◌, ℕ, drop, length};
+// The initiator for programs in other languages. It is like `responder_end` call by call, over another record, another layout and other answers:
+// one trait of both with its laws would be longer than the two. Promises: `specs/InitiatorCalls.antt`.
+ghost use Rattle.std.specs.Prelude.{◌≡◌, [], drop, is_err};
 ghost use Rattle.initiator.specs.Calls.{shown_said};
-ghost use Rattle.initiator.specs.Heads.{whole_of, shown_on};
-ghost use Rattle.exports_link.specs.Leaves.{initiator_head_of, initiator_head_in};
-ghost use Rattle.exports_link.specs.Calls.{is_refusal, code_of, told_of, crossed};
+ghost use Rattle.initiator.specs.Heads.{whole_of, head_after, shown_on};
+ghost use Rattle.exports_link.specs.Leaves.{initiator_head_of, code_given};
+ghost use Rattle.exports_link.specs.Calls.{is_refusal, unless_refused, code_of, told_of, crossed};
 ghost use Rattle.exports_link.specs.InitiatorBytes.{initiator_bytes};
-ghost use Rattle.exports_link.specs.InitiatorCalls.{outcome_code, outcome_numbers, initiator_crosses, koy_initiator_new, koy_initiator_submit, koy_initiator_silence, koy_initiator_hear, koy_initiator_restart};
+ghost use Rattle.exports_link.specs.InitiatorCalls.{initiator_crosses, koy_initiator_new, koy_initiator_submit, koy_initiator_silence, koy_initiator_hear, koy_initiator_restart};
 
-use crate::bytes::{capped, is_refusal, length_byte, length_of, link_of, store};
-use initiator::{Initiator, InitiatorAnswer, InitiatorHead, InitiatorHeadTurn, Phase};
+use crate::bytes::{length_byte, link_of, store};
+use ground::Refusal;
+use initiator::{Initiator, InitiatorAnswer, InitiatorHead, InitiatorHeadTurn};
 use link_numbers::{phase_number, phase_of};
+use link_rules::LONGEST;
 
 // The record without its order, which stays where it is.
+#[tactic(auto, unfolding(crate::specs::Leaves::initiator_head_of))]
 fn head_of(state: &[u8; 252]) -> InitiatorHead
     ensures { result ≡ initiator_head_of state.now }
 {
-    let link = link_of(state[0], state[1]);
-    let phase = phase_of(state[3], state[4]);
-    let len = length_of(state[5]);
     InitiatorHead {
-        link,
+        link: link_of(state[0], state[1]),
         tries: state[2],
-        phase,
-        len,
+        phase: phase_of(state[3], state[4]),
+        len: state[5] as usize,
     }
 }
 
 // Phase, tries used and length anew; the rest stays.
-fn store_head(phase: Phase, len: usize, state: &mut [u8])
-    requires { length state.old ≡ 252 }
-    ensures { state.new ≡ initiator_bytes (whole_of (initiator_head_in state.old phase len) (drop 6 state.old)) }
+#[tactic(auto, unfolding(crate::specs::Leaves::initiator_head_of))]
+fn store_head(turn: InitiatorHeadTurn, state: &mut [u8; 252])
+    ensures { state.new ≡ initiator_bytes (whole_of (head_after turn (initiator_head_of state.old)) (drop 6 state.old)) }
 {
-    state[3] = phase_number(phase);
-    state[4] = phase.tries_used();
-    state[5] = length_byte(capped(len));
+    state[3] = phase_number(turn.phase);
+    state[4] = turn.phase.tries_used();
+    state[5] = length_byte(turn.len.min(LONGEST));
 }
 
-fn pack(initiator: Initiator, state: &mut [u8])
-    requires { length state.old ≡ 252 }
+fn pack(initiator: Initiator, state: &mut [u8; 252])
     ensures { state.new ≡ initiator_bytes initiator }
 {
-    let own = initiator.own();
-    let peer = initiator.peer();
     let phase = initiator.phase();
-    let number = phase_number(phase);
-    let used = phase.tries_used();
-    let len = length_byte(initiator.order_len());
-    let head = [own.0, peer.0, initiator.tries(), number, used, len];
-    let order = initiator.order();
-    store(&head, &order, state);
+    let head = [
+        initiator.own().0,
+        initiator.peer().0,
+        initiator.tries(),
+        phase_number(phase),
+        phase.tries_used(),
+        length_byte(initiator.order_len()),
+    ];
+    store(&head, &initiator.order(), state);
 }
 
-fn code_of(answer: InitiatorAnswer) -> u8
-    ensures { result ≡ code_of outcome_code (shown_said answer) }
+// Tells the numbers of an answer and gives its code. A refusal leaves the numbers as they came.
+#[tactic(auto, using(crate::proofs::CallLaws::refusal_told))]
+fn tell(answer: InitiatorAnswer, told: &mut [usize; 3]) -> Result<u8, Refusal>
+    ensures code { code_given result ≡ code_of initiator_crosses.code (shown_said answer) }
+    ensures refused { is_err result ≡ is_refusal (code_of initiator_crosses.code (shown_said answer)) }
+    ensures told { told.new ≡ unless_refused (code_of initiator_crosses.code (shown_said answer)) told.old (told_of initiator_crosses.numbers initiator_crosses.zeros (shown_said answer)) }
 {
-    match answer {
-        InitiatorAnswer::Sent(_) => 102,
-        InitiatorAnswer::Confirmed(_, _) => 103,
-        InitiatorAnswer::NotSent(_) => 104,
-        InitiatorAnswer::Unknown(_) => 105,
-        InitiatorAnswer::Nothing => 0,
-        InitiatorAnswer::Refused(refusal) => refusal.number(),
-    }
-}
-
-fn told_of(answer: InitiatorAnswer) -> [usize; 3]
-    ensures { result ≡ told_of outcome_numbers (0 ∷ 0 ∷ []) (shown_said answer) }
-{
-    match answer {
-        InitiatorAnswer::Sent(n) => [n, 0, 0],
-        InitiatorAnswer::Confirmed(reply, tries) => [reply.start, reply.len, tries as usize],
-        InitiatorAnswer::NotSent(tries) => [0, 0, tries as usize],
-        InitiatorAnswer::Unknown(tries) => [0, 0, tries as usize],
-        InitiatorAnswer::Nothing => [0, 0, 0],
-        InitiatorAnswer::Refused(_) => [0, 0, 0],
-    }
-}
-
-fn was_refused(answer: InitiatorAnswer) -> bool
-    ensures { result ≡ is_refusal (code_of outcome_code (shown_said answer)) }
-{
-    match answer {
-        InitiatorAnswer::Sent(_) => false,
-        InitiatorAnswer::Confirmed(_, _) => false,
-        InitiatorAnswer::NotSent(_) => false,
-        InitiatorAnswer::Unknown(_) => false,
-        InitiatorAnswer::Nothing => false,
-        InitiatorAnswer::Refused(_) => true,
-    }
+    let (code, numbers) = match answer {
+        InitiatorAnswer::Sent(n) => (102, [n, 0, 0]),
+        InitiatorAnswer::Confirmed(reply, tries) => (103, [reply.start, reply.len, tries as usize]),
+        InitiatorAnswer::NotSent(tries) => (104, [0, 0, tries as usize]),
+        InitiatorAnswer::Unknown(tries) => (105, [0, 0, tries as usize]),
+        InitiatorAnswer::Nothing => (0, [0, 0, 0]),
+        InitiatorAnswer::Refused(refusal) => return Err(refusal),
+    };
+    *told = numbers;
+    Ok(code)
 }
 
 // A refused call left the record as it came, so its bytes are not touched.
-fn finish(turn: InitiatorHeadTurn, state: &mut [u8], told: &mut [usize; 3]) -> u8
-    requires { length state.old ≡ 252 }
-    ensures { (buf : List ℕ) → record { code = result; told = told.new; state = state.new; buffer = buf } ≡ crossed initiator_crosses state.old told.old (shown_on turn (initiator_head_of state.old) (drop 6 state.old) buf) }
+// Its twin in `responder_end` tells and stores by the other end's types: a trait of both with its laws would be longer than the two.
+fn finish(turn: InitiatorHeadTurn, state: &mut [u8; 252], told: &mut [usize; 3]) -> u8
+    ensures code { result ≡ code_of initiator_crosses.code (shown_said turn.answer) }
+    ensures told { told.new ≡ unless_refused (code_of initiator_crosses.code (shown_said turn.answer)) told.old (told_of initiator_crosses.numbers initiator_crosses.zeros (shown_said turn.answer)) }
+    ensures state { state.new ≡ unless_refused (code_of initiator_crosses.code (shown_said turn.answer)) state.old (initiator_bytes (whole_of (head_after turn (initiator_head_of state.old)) (drop 6 state.old))) }
 {
-    let answer = turn.answer;
-    let code = code_of(answer);
-    if was_refused(answer) {
-        return code;
+    match tell(turn.answer, told) {
+        Ok(code) => {
+            store_head(turn, state);
+            code
+        }
+        Err(refusal) => refusal.number(),
     }
-    *told = told_of(answer);
-    let phase = turn.phase;
-    store_head(phase, turn.len, state);
-    code
-}
-
-fn made(own: u8, peer: u8, tries: u8, state: &mut [u8]) -> u8
-    requires { length state.old ≡ 252 }
-    ensures { record { code = result; state = state.new } ≡ koy_initiator_new state.old own peer tries }
-{
-    let made = Initiator::new(link_of(own, peer), tries);
-    let answer = made.answer;
-    let initiator = made.initiator;
-    let code = answer.number();
-    if is_refusal(code) {
-        return code;
-    }
-    pack(initiator, state);
-    code
 }
 
 // Refusals 18 and 19, in this order.
+#[tactic(auto, using(crate::proofs::CallLaws::refusal_told), unfolding(crate::specs::Calls::new_call))]
 pub fn koy_initiator_new(state: &mut [u8; 252], own: u8, peer: u8, tries: u8) -> u8
     ensures { record { code = result; state = state.new } ≡ koy_initiator_new state.old own peer tries }
 {
-    made(own, peer, tries, state)
+    let made = Initiator::new(link_of(own, peer), tries);
+    match made.answer {
+        Ok(()) => {
+            pack(made.after, state);
+            0
+        }
+        Err(refusal) => refusal.number(),
+    }
 }
 
-// The calls on the bytes behind an array's type: the order is lent as a part of them.
-
-fn submit(
-    head: InitiatorHead,
-    state: &mut [u8],
-    order: &[u8],
-    buf: &mut [u8],
-    told: &mut [usize; 3],
-) -> u8
-    requires { (length state.old ≡ 252) × (head ≡ initiator_head_of state.old) }
-    ensures { record { code = result; told = told.new; state = state.new; buffer = buf.new } ≡ koy_initiator_submit state.old order.now buf.old told.old }
-{
-    let turn = head.submit(&mut state[6..], order, buf);
-    finish(turn, state, told)
-}
-
-fn silence(head: InitiatorHead, state: &mut [u8], buf: &mut [u8], told: &mut [usize; 3]) -> u8
-    requires { (length state.old ≡ 252) × (head ≡ initiator_head_of state.old) }
-    ensures { record { code = result; told = told.new; state = state.new; buffer = buf.new } ≡ koy_initiator_silence state.old buf.old told.old }
-{
-    let turn = head.silence(&state[6..], buf);
-    finish(turn, state, told)
-}
-
-fn hear(
-    head: InitiatorHead,
-    state: &mut [u8],
-    heard: &[u8],
-    buf: &mut [u8],
-    told: &mut [usize; 3],
-) -> u8
-    requires { (length state.old ≡ 252) × (head ≡ initiator_head_of state.old) }
-    ensures { record { code = result; told = told.new; state = state.new; buffer = buf.new } ≡ koy_initiator_hear state.old heard.now buf.old told.old }
-{
-    let turn = head.hear(&state[6..], heard, buf);
-    finish(turn, state, told)
-}
+// The order behind the head is lent as a part of the bytes.
 
 pub fn koy_initiator_submit(
     state: &mut [u8; 252],
@@ -174,17 +112,19 @@ pub fn koy_initiator_submit(
 ) -> u8
     ensures { record { code = result; told = told.new; state = state.new; buffer = buf.new } ≡ koy_initiator_submit state.old order.now buf.old told.old }
 {
-    let head = head_of(state);
-    submit(head, state, order, buf, told)
+    let turn = head_of(state).submit(&mut state[6..], order, buf);
+    finish(turn, state, told)
 }
 
+#[tactic(auto, using(crate::proofs::ByteLaws::order_all, crate::proofs::ByteLaws::order_long, initiator::proofs::HeadLaws::silence_lent), unfolding(crate::specs::Calls::crossed, crate::specs::Leaves::initiator_head_of))]
 pub fn koy_initiator_silence(state: &mut [u8; 252], buf: &mut [u8], told: &mut [usize; 3]) -> u8
     ensures { record { code = result; told = told.new; state = state.new; buffer = buf.new } ≡ koy_initiator_silence state.old buf.old told.old }
 {
-    let head = head_of(state);
-    silence(head, state, buf, told)
+    let turn = head_of(state).silence(&state[6..], buf);
+    finish(turn, state, told)
 }
 
+#[tactic(auto, using(crate::proofs::ByteLaws::order_all, crate::proofs::ByteLaws::order_long, initiator::proofs::HeadLaws::hear_lent), unfolding(crate::specs::Calls::crossed, crate::specs::Leaves::initiator_head_of))]
 pub fn koy_initiator_hear(
     state: &mut [u8; 252],
     heard: &[u8],
@@ -193,14 +133,14 @@ pub fn koy_initiator_hear(
 ) -> u8
     ensures { record { code = result; told = told.new; state = state.new; buffer = buf.new } ≡ koy_initiator_hear state.old heard.now buf.old told.old }
 {
-    let head = head_of(state);
-    hear(head, state, heard, buf, told)
+    let turn = head_of(state).hear(&state[6..], heard, buf);
+    finish(turn, state, told)
 }
 
+#[tactic(auto, unfolding(crate::specs::Calls::crossed, crate::specs::Leaves::initiator_head_of))]
 pub fn koy_initiator_restart(state: &mut [u8; 252], told: &mut [usize; 3]) -> u8
     ensures { record { code = result; told = told.new; state = state.new; buffer = [] } ≡ koy_initiator_restart state.old told.old }
 {
-    let head = head_of(state);
-    let turn = head.restart();
+    let turn = head_of(state).restart();
     finish(turn, state, told)
 }

@@ -1,5 +1,6 @@
 -- What the exported calls rest on in the calls by value: a refused call answers a refusal's number and gives back its record, and what is
 -- told lies within the heard bytes. Read `Fair`, and the laws `-fair` of each call.
+use Rattle.std.proofs.Common.{None, Option, Some}
 use Prim.Native.Nat.{ℕ, ◌+◌}
 use mathlib.Core.Bool.{true, ◌||◌}
 use mathlib.Core.List.{List, []}
@@ -45,8 +46,6 @@ use Rattle.responder_row.specs.declared.row.RowAction.{RowAction}
 use Rattle.responder_row.specs.declared.row.RowAction.TheVariants as action
 use Rattle.responder_row.specs.declared.row.RowState.{RowState}
 use Rattle.responder_row.specs.declared.row.RowState.TheVariants.{Blank, Opened, Owes, Holds}
-use Rattle.responder_row.specs.declared.row.StoredBit.{StoredBit}
-use Rattle.responder_row.specs.declared.row.StoredBit.TheVariants as stored
 use Rattle.telegram.proofs.ReadingLaws.{pdu_within}
 use Rattle.telegram.specs.Picture.{length_byte, telegram_bytes}
 use Rattle.telegram.specs.Reading as reading
@@ -225,9 +224,9 @@ module _ (s : List ℕ) (row : Row) where
   again_within (Owes b) = tt
   again_within (Holds b) = tt
 
-  order_within : (st : StoredBit) (b : Bit) (q : Part) → Within s q → TurnWithin (order_on st b q row)
-  order_within stored.Nothing b q w = tt
-  order_within (stored.Is c) b q w =
+  order_within : (st : Option Bit) (b : Bit) (q : Part) → Within s q → TurnWithin (order_on st b q row)
+  order_within None b q w = tt
+  order_within (Some c) b q w =
       picked TurnWithin (same_bit c b) (λ e. again_within row.state)
       (λ e. picked TurnWithin (wrong_length q.len) (λ f. tt) (λ f. w))
 

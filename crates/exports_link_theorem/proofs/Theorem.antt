@@ -22,7 +22,7 @@ use Rattle.initiator.proofs.RecordLaws as initiatorMaker
 use Rattle.initiator.specs.Calls as initiator
 use Rattle.initiator.specs.Records as initiatorRecords
 use Rattle.initiator.specs.Records.{closed_of}
-use Rattle.link_rules.proofs.RuleLaws.{linked_addresses, permitted_tries, linked_turned}
+use Rattle.link_rules.proofs.RuleLaws.{linked_addresses, linked_turned}
 use Rattle.link_rules.specs.Rules.{Linked, Permitted, turned}
 use Rattle.link_rules.specs.declared.link.Link.{Link}
 use Rattle.link_theorem.proofs.Theorem as byValue
@@ -42,7 +42,7 @@ module _ (found : Found) (link : Link) (linked : Linked link) where
       → initiator_of (koy_initiator_new found.initiator link.own.0 link.peer.0 n).state ≡ (initiatorRecords.made_of link n).end
   unfolding new_call
   initiator_made_lem n p =
-      rw (initiatorMaker.made link n (linked_addresses link linked) (permitted_tries n p))
+      rw (initiatorMaker.made link n linked p)
       (initiator_again (closed_of link n) (lit≤ tt))
 
   pub turned_made : responderRecords.made_of (turned link) ≡ record { number = 0; end = blank_of (turned link) }

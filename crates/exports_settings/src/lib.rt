@@ -6,9 +6,10 @@ ghost use Rattle.std.specs.Prelude.{◌≡◌, List, [], ◌∷◌, ℕ};
 ghost use Rattle.settings.specs.Writing.{shown_written};
 ghost use Rattle.exports_settings.specs.Calls.{koy_settings_read, koy_settings_write, write_call};
 
-use ground::Address;
-use settings::{Settings, SettingsRead, SettingsWritten, read_settings, write_settings};
+use ground::{Address, Refusal};
+use settings::{Settings, read_settings, write_settings};
 
+// The numbers of the settings stand in an array: the C interface.
 fn told_of(settings: Settings) -> [usize; 3]
     ensures { result ≡ settings.own.0 ∷ settings.peer.0 ∷ settings.tries ∷ [] }
 {
@@ -23,23 +24,23 @@ pub fn koy_settings_read(text: &[u8], told: &mut [usize; 3]) -> u8
     ensures { record { code = result; told = told.new } ≡ koy_settings_read text.now told.old }
 {
     match read_settings(text) {
-        SettingsRead::Read(settings) => {
+        Ok(settings) => {
             *told = told_of(settings);
             0
         }
-        SettingsRead::Refused(refusal) => refusal.number(),
+        Err(refusal) => refusal.number(),
     }
 }
 
-fn tell(written: SettingsWritten, told: &mut [usize; 1]) -> u8
+fn tell(written: Result<usize, Refusal>, told: &mut [usize; 1]) -> u8
     ensures { (buf : List ℕ) → record { code = result; told = told.new; buffer = buf } ≡ write_call (shown_written written) told.old buf }
 {
     match written {
-        SettingsWritten::Written(n) => {
+        Ok(n) => {
             *told = [n];
             0
         }
-        SettingsWritten::Refused(refusal) => refusal.number(),
+        Err(refusal) => refusal.number(),
     }
 }
 
@@ -48,10 +49,10 @@ pub fn koy_settings_write(own: u8, peer: u8, tries: u8, buf: &mut [u8], told: &m
     ensures { record { code = result; told = told.new; buffer = buf.new }
         ≡ koy_settings_write own peer tries buf.old told.old }
 {
-    let link = Settings {
+    let settings = Settings {
         own: Address(own),
         peer: Address(peer),
         tries,
     };
-    tell(write_settings(link, buf), told)
+    tell(write_settings(settings, buf), told)
 }

@@ -2,22 +2,34 @@
 use mathlib.Core.Path.{◌≡◌, ap, ◌∙◌}
 use mathlib.Core.List.{List}
 use Prim.Native.Nat.{ℕ, suc}
-use Rattle.ground.specs.Refusals.{shown}
+use Rattle.std.proofs.Common.{◌≢◌, ◌<◌, arith, lt-ltb, Err, Ok, Result}
+use Rattle.ground.proofs.Injective.{zero_one}
+use Rattle.ground.proofs.RefusalLaws.{shown_injective}
+use Rattle.ground.specs.Refusals.{number_of, shown}
+use Rattle.ground.specs.declared.refusal.Refusal.{Refusal}
+use Rattle.ground.specs.declared.returned.Returned.{Returned}
 use Rattle.token_ring.specs.Flags.{active, lowest_from, highest_below}
 use Rattle.token_ring.specs.Promises.{Gives}
-use Rattle.token_ring.specs.declared.ring.Changed.{Changed}
 use Rattle.token_ring.specs.declared.ring.TokenRing.{TokenRing}
 use Rattle.exports_stations.specs.Bytes.{stations_bytes}
 use Rattle.exports_stations.specs.Calls.{Call, crossed, found_number}
 
+-- A call that was refused leaves the bytes: no refusal has the number of what was done.
+numbered : (r : Refusal) → number_of r ≢ 0
+numbered r e = zero_one (let alike = shown_injective (Err r) (Ok tt) e in cc)
+
+pub refused : (s : List ℕ) (r : Refusal) (after : TokenRing) → record { code = number_of r; state = s } ≡ crossed s (number_of r) after
+unfolding crossed
+refused s r after = let above : 0 < number_of r = omega (arith, numbered r) in rw (lt-ltb 0 (number_of r) above)
+
 -- A call that may refuse gives what its promise says.
-pub given : (s : List ℕ) {c : Call} (ch : Changed) (n : ℕ) (r : TokenRing) → c ≡ crossed s (shown ch.answer) ch.ring → Gives n r ch
+pub given : (s : List ℕ) {c : Call} (ch : Returned (Result Unit Refusal) TokenRing) (n : ℕ) (r : TokenRing) → c ≡ crossed s (shown ch.answer) ch.after → Gives n r ch
     → c ≡ crossed s n r
-given s ch n r e g = e ∙ (ap (λ k. crossed s k ch.ring) g.answer ∙ ap (λ x. crossed s n x) g.ring)
+given s ch n r e g = e ∙ (ap (λ k. crossed s k ch.after) g.answer ∙ ap (λ x. crossed s n x) g.ring)
 
 -- The same, on the list that the bytes are.
-pub given_on : (s : List ℕ) {c : Call} (ch : Changed) (n : ℕ) (f : TokenRing → TokenRing) {i j : TokenRing}
-    → c ≡ crossed s (shown ch.answer) ch.ring → Gives n (f i) ch → i ≡ j
+pub given_on : (s : List ℕ) {c : Call} (ch : Returned (Result Unit Refusal) TokenRing) (n : ℕ) (f : TokenRing → TokenRing) {i j : TokenRing}
+    → c ≡ crossed s (shown ch.answer) ch.after → Gives n (f i) ch → i ≡ j
     → c ≡ crossed s n (f j)
 given_on s ch n f e g h = given s ch n (f _) e g ∙ ap (λ x. crossed s n (f x)) h
 

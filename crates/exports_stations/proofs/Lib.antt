@@ -7,4 +7,3 @@ pub mod Determined
 mod CallLaws
 -- the loop that maps one list into another, and where the bytes of a list stand
 mod MapLaws
-mod StoreLaws

@@ -1,7 +1,6 @@
 -- What a call on the station list is to a program in another language. Read the definitions named like the calls: each is the whole promise of
 -- its call, over the lent bytes at entry.
-use Rattle.std.specs.Prelude.{ℕ, suc, Bool, List, [], ◌∷◌, ltb}
-use Rattle.std.proofs.Math.Option.{Option, none, some}
+use Rattle.std.specs.Prelude.{ℕ, suc, Bool, List, [], ◌∷◌, ltb, None, Option, Some}
 use Rattle.ground.specs.Pick.{if}
 use Rattle.exports_stations.specs.Bytes.{phase_number, stations_bytes, stations_of}
 use Rattle.token_ring.specs.Flags.{active, lowest_from, highest_below}
@@ -23,8 +22,8 @@ about_of r = phase_number r.las_state ∷ r.this_station.0 ∷ r.next_station.0 
 
 -- the station found, or 256, which no address is
 abbrev pub found_number : Option ℕ → ℕ
-found_number (some a) = a
-found_number none = 256
+found_number (Some a) = a
+found_number None = 256
 
 -- ---- the calls that change the list
 

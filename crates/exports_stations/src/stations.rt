@@ -1,5 +1,5 @@
 // The calls of a station list on lent bytes. Promises: the definitions of specs/Calls.antt that are named like the calls.
-ghost use Rattle.std.specs.Prelude.{◌≡◌, length};
+ghost use Rattle.std.specs.Prelude.{◌≡◌};
 ghost use Rattle.ground.specs.Refusals.{shown};
 ghost use Rattle.token_ring.specs.Flags.{shown_found};
 ghost use Rattle.exports_stations.specs.Calls.{about_of, crossed, found_number};
@@ -7,53 +7,41 @@ ghost use Rattle.exports_stations.specs.Calls.{koy_stations_about, koy_stations_
 ghost use Rattle.exports_stations.specs.Calls.{koy_stations_new, koy_stations_remove, koy_stations_set_next, koy_stations_witness};
 
 use crate::bytes::{pack, phase_number, unpack};
-use ground::Address;
-use token_ring::{Changed, Found, TokenRing};
+use ground::{Address, Refusal, Returned};
+use token_ring::TokenRing;
 
 // A refused call left the list as it came, so its bytes are not touched.
-fn finish(changed: Changed, state: &mut [u8; 132]) -> u8
-    requires { length state.old ≡ 132 }
-    ensures { record { code = result; state = state.new } ≡ crossed state.old (shown changed.answer) changed.ring }
+#[tactic(auto, using(crate::proofs::CallLaws::refused), unfolding(crate::specs::Calls::crossed))]
+fn finish(changed: Returned<Result<(), Refusal>, TokenRing>, state: &mut [u8; 132]) -> u8
+    ensures { record { code = result; state = state.new } ≡ crossed state.old (shown changed.answer) changed.after }
 {
-    let answer = changed.answer;
-    let ring = changed.ring;
-    let code = answer.number();
-    if 0 < code {
-        return code;
+    match changed.answer {
+        Ok(()) => {
+            pack(changed.after, state);
+            0
+        }
+        Err(refusal) => refusal.number(),
     }
-    pack(ring, state);
-    code
-}
-
-// Nothing of the old bytes is read but their number, which the array's type gives.
-fn size(bytes: [u8; 132]) -> usize
-    ensures { (result ≡ 132) × (length bytes ≡ 132) }
-{
-    132
 }
 
 // Refusal 11.
 pub fn koy_stations_new(state: &mut [u8; 132], own: u8) -> u8
     ensures { record { code = result; state = state.new } ≡ koy_stations_new state.old own }
 {
-    let bytes = *state;
-    size(bytes);
     finish(TokenRing::new(Address(own)), state)
 }
 
 pub fn koy_stations_witness(state: &mut [u8; 132], sa: u8, da: u8)
     ensures { state.new ≡ koy_stations_witness state.old sa da }
 {
-    let bytes = *state;
-    let ring = unpack(bytes);
+    let ring = unpack(state);
     pack(ring.witness_token_pass(Address(sa), Address(da)), state);
 }
 
 pub fn koy_stations_claim(state: &mut [u8; 132])
     ensures { state.new ≡ koy_stations_claim state.old }
 {
-    let bytes = *state;
-    let ring = unpack(bytes);
+    let ring = unpack(state);
     pack(ring.claim_token(), state);
 }
 
@@ -61,8 +49,7 @@ pub fn koy_stations_claim(state: &mut [u8; 132])
 pub fn koy_stations_set_next(state: &mut [u8; 132], address: u8) -> u8
     ensures { record { code = result; state = state.new } ≡ koy_stations_set_next state.old address }
 {
-    let bytes = *state;
-    let ring = unpack(bytes);
+    let ring = unpack(state);
     finish(ring.set_next_station(Address(address)), state)
 }
 
@@ -70,8 +57,7 @@ pub fn koy_stations_set_next(state: &mut [u8; 132], address: u8) -> u8
 pub fn koy_stations_remove(state: &mut [u8; 132], address: u8) -> u8
     ensures { record { code = result; state = state.new } ≡ koy_stations_remove state.old address }
 {
-    let bytes = *state;
-    let ring = unpack(bytes);
+    let ring = unpack(state);
     finish(ring.remove_station(Address(address)), state)
 }
 
@@ -88,40 +74,37 @@ fn about(ring: TokenRing) -> [usize; 4]
 pub fn koy_stations_about(state: &[u8; 132], told: &mut [usize; 4])
     ensures { told.new ≡ koy_stations_about state.now }
 {
-    let bytes = *state;
-    let ring = unpack(bytes);
+    let ring = unpack(state);
     *told = about(ring);
 }
 
 pub fn koy_stations_is_active(state: &[u8; 132], address: u8) -> bool
     ensures { result ≡ koy_stations_is_active state.now address }
 {
-    let bytes = *state;
-    let ring = unpack(bytes);
+    let ring = unpack(state);
     ring.is_active(Address(address))
 }
 
-fn found_number(found: Found) -> usize
+// A program in another language is told a number: 256 is no address.
+fn found_number(found: Option<Address>) -> usize
     ensures { result ≡ found_number (shown_found found) }
 {
     match found {
-        Found::Station(a) => a.0 as usize,
-        Found::Nothing => 256,
+        Some(a) => a.0 as usize,
+        None => 256,
     }
 }
 
 pub fn koy_stations_first_from(state: &[u8; 132], address: u8) -> usize
     ensures { result ≡ koy_stations_first_from state.now address }
 {
-    let bytes = *state;
-    let ring = unpack(bytes);
+    let ring = unpack(state);
     found_number(ring.first_active_from(Address(address)))
 }
 
 pub fn koy_stations_last_to(state: &[u8; 132], address: u8) -> usize
     ensures { result ≡ koy_stations_last_to state.now address }
 {
-    let bytes = *state;
-    let ring = unpack(bytes);
+    let ring = unpack(state);
     found_number(ring.last_active_to(Address(address)))
 }

@@ -9,12 +9,12 @@ use exports_telegrams::reading::koy_read;
 use telegram_strict::strict_start;
 
 // The start is judged here; the rest is the plain call's.
+#[tactic(auto, unfolding(telegram_strict::specs::Strict::strict_of))]
 pub fn koy_read_strict(bytes: &[u8], told: &mut [usize; 9]) -> u8
     ensures { record { code = result; told = told.new } ≡ koy_read_strict bytes.now told.old }
 {
-    let number = strict_start(bytes);
-    if number != 0 {
-        return number;
+    match strict_start(bytes) {
+        Err(why) => why as u8,
+        Ok(()) => koy_read(bytes, told),
     }
-    koy_read(bytes, told)
 }

@@ -1,12 +1,11 @@
 -- What reading a telegram tells a program in another language: numbers alone. Read `koy_read`, the promise of `koy_read`, and `told_of`.
-use Rattle.std.specs.Prelude.{ℕ, List, [], ◌∷◌}
+use Rattle.std.specs.Prelude.{ℕ, List, [], ◌∷◌, None, Option, Some}
 use Rattle.codes.specs.FunctionCodes.{code_byte}
 use Rattle.telegram.specs.Reading.{Reading, whole, incomplete, refused, read_of}
 use Rattle.telegram.specs.declared.header.DataTelegramHeader.{DataTelegramHeader}
-use Rattle.telegram.specs.declared.header.SapOption.{SapOption}
-use Rattle.telegram.specs.declared.header.SapOption.TheVariants.{Some, None}
 use Rattle.telegram.specs.declared.kinds.Telegram.{Telegram}
 use Rattle.telegram.specs.declared.kinds.Telegram.TheVariants.{Data, Token, ShortConfirmation}
+use Rattle.ground.specs.declared.address.Sap.{Sap}
 
 -- stands where a byte is absent: no byte is 256
 abbrev pub absent : ℕ
@@ -16,7 +15,7 @@ absent = 256
 abbrev pub incomplete_code : ℕ
 incomplete_code = 100
 
-abbrev pub sap_number : SapOption → ℕ
+abbrev pub sap_number : Option Sap → ℕ
 sap_number (Some sap) = sap.0
 sap_number None = absent
 

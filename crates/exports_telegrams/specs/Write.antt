@@ -1,32 +1,28 @@
 -- What writing a telegram takes from a program in another language, and tells it. Read `koy_write_data`, `koy_write_token` and
 -- `koy_write_confirmation`, the promises of the calls so named.
-use Rattle.std.specs.Prelude.{ℕ, List, [], ◌∷◌, ltb, length}
+use Rattle.std.specs.Prelude.{ℕ, List, [], ◌∷◌, ltb, length, None, Option, Some}
 use Rattle.codes.specs.FunctionCodes.{function_code_of}
 use Rattle.ground.specs.Pick.{if}
 use Rattle.ground.specs.Refusals.{OrRefused, gives, refused}
 use Rattle.codes.specs.declared.function_code.FunctionCode.{FunctionCode}
-use Rattle.codes.specs.declared.function_code.FunctionCodeFound.{FunctionCodeFound}
-use Rattle.codes.specs.declared.function_code.FunctionCodeFound.TheVariants.{Is, Nothing}
 use Rattle.exports_telegrams.specs.Read.{absent}
-use Rattle.telegram.specs.declared.header.AddressOption.{AddressOption}
-use Rattle.telegram.specs.declared.header.AddressOption.TheVariants as address
 use Rattle.telegram.specs.declared.header.DataTelegramHeader.{DataTelegramHeader}
-use Rattle.telegram.specs.declared.header.SapOption.{SapOption}
-use Rattle.telegram.specs.declared.header.SapOption.TheVariants.{Some, None}
 use Rattle.telegram_tx.specs.Writing.{write_of, buffer_of, write_token_of, token_buffer_of, write_confirmation_of, confirmation_buffer_of}
 use Rattle.telegram_tx.specs.declared.tx.TelegramTxResponse.{TelegramTxResponse}
+use Rattle.ground.specs.declared.address.Address.{Address}
+use Rattle.ground.specs.declared.address.Sap.{Sap}
 
 -- a number below 256 is a SAP; any other says that there is none
-abbrev pub sap_of : ℕ → SapOption
+abbrev pub sap_of : ℕ → Option Sap
 sap_of n = if (ltb n 256) (Some (record { 0 = n })) None
 
 abbrev pub header_of : ℕ → ℕ → ℕ → ℕ → FunctionCode → DataTelegramHeader
 header_of da sa dsap ssap fc =
     record { da = record { 0 = da }; sa = record { 0 = sa }; dsap = sap_of dsap; ssap = sap_of ssap; fc = fc }
 
-abbrev pub address_number : AddressOption → ℕ
-address_number (address.Some a) = a.0
-address_number address.None = absent
+abbrev pub address_number : Option Address → ℕ
+address_number (Some a) = a.0
+address_number None = absent
 
 -- a call: its code, and what was lent at its end
 pub record WriteCall : Type 0 where
@@ -41,10 +37,10 @@ write_call (gives response) before buf =
 write_call (refused n) before buf = record { code = n; told = before; buffer = buf }
 
 -- 4 where the byte is no function code; else what the writer answers
-abbrev pub coded_call : FunctionCodeFound → ℕ → ℕ → ℕ → ℕ → List ℕ → List ℕ → List ℕ → WriteCall
-coded_call (Is fc) da sa dsap ssap pdu before buf =
+abbrev pub coded_call : Option FunctionCode → ℕ → ℕ → ℕ → ℕ → List ℕ → List ℕ → List ℕ → WriteCall
+coded_call (Some fc) da sa dsap ssap pdu before buf =
     write_call (write_of (header_of da sa dsap ssap fc) pdu (length buf)) before (buffer_of (header_of da sa dsap ssap fc) pdu buf)
-coded_call Nothing da sa dsap ssap pdu before buf = record { code = 4; told = before; buffer = buf }
+coded_call None da sa dsap ssap pdu before buf = record { code = 4; told = before; buffer = buf }
 
 -- `koy_write_data`: the function code comes as a byte
 unfoldable pub koy_write_data : ℕ → ℕ → ℕ → ℕ → ℕ → List ℕ → List ℕ → List ℕ → WriteCall

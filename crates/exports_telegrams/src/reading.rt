@@ -2,43 +2,44 @@
 ghost use Rattle.std.specs.Prelude.{◌≡◌};
 ghost use Rattle.exports_telegrams.specs.Read.{data_told, koy_read, sap_number, told_of};
 
-use telegram::{DataTelegram, Deserialized, SapOption, Telegram, TokenTelegram};
+use ground::Sap;
+use telegram::{DataTelegram, Deserialized, Telegram, TokenTelegram};
 
 // Stands where a byte is absent.
 pub const ABSENT: usize = 256;
 // The code of "incomplete".
 pub const INCOMPLETE: u8 = 100;
 
-fn sap_number(sap: SapOption) -> usize
+fn sap_number(sap: Option<Sap>) -> usize
     ensures { result ≡ sap_number sap }
 {
-    match sap {
-        SapOption::Some(s) => s.0 as usize,
-        SapOption::None => ABSENT,
-    }
+    sap.map_or(ABSENT, |s| s.0 as usize)
 }
 
 fn token_told(t: TokenTelegram, total: usize) -> [usize; 9]
     ensures { result ≡ told_of (Telegram.Token t) total }
 {
-    let da = t.da.0 as usize;
-    let sa = t.sa.0 as usize;
-    [2, total, da, sa, ABSENT, ABSENT, ABSENT, 0, 0]
+    [
+        2,
+        total,
+        t.da.0 as usize,
+        t.sa.0 as usize,
+        ABSENT,
+        ABSENT,
+        ABSENT,
+        0,
+        0,
+    ]
 }
 
 fn data_told(t: DataTelegram, total: usize) -> [usize; 9]
     ensures { result ≡ data_told t.h t.pdu.start t.pdu.len total }
 {
     let h = t.h;
-    let dsap = h.dsap;
-    let ssap = h.ssap;
-    let fc = h.fc;
-    let da = h.da.0 as usize;
-    let sa = h.sa.0 as usize;
-    let d = sap_number(dsap);
-    let s = sap_number(ssap);
-    let f = fc.to_byte() as usize;
-    [3, total, da, sa, d, s, f, t.pdu.start, t.pdu.len]
+    let (da, sa) = (h.da.0 as usize, h.sa.0 as usize);
+    let (dsap, ssap) = (sap_number(h.dsap), sap_number(h.ssap));
+    let fc = h.fc.to_byte() as usize;
+    [3, total, da, sa, dsap, ssap, fc, t.pdu.start, t.pdu.len]
 }
 
 fn told_of(telegram: Telegram, total: usize) -> [usize; 9]

@@ -1,67 +1,54 @@
 // Telegrams written from numbers. Promises: `koy_write_data`, `koy_write_token`, `koy_write_confirmation` in specs/Write.antt.
-ghost use Rattle.std.specs.Prelude.{◌≡◌, ℕ, List, [], ◌∷◌};
-ghost use Rattle.exports_telegrams.specs.Write.{address_number, bare_call, koy_write_confirmation, koy_write_data, koy_write_token, sap_of, write_call};
+ghost use Rattle.std.specs.Prelude.{◌≡◌, ℕ, List};
+ghost use Rattle.exports_telegrams.specs.Write.{bare_call, koy_write_confirmation, koy_write_data, koy_write_token, sap_of, write_call};
 ghost use Rattle.exports_telegrams.specs.Leaves.{coded_header};
 ghost use Rattle.telegram_tx.specs.Writing.{shown_writing};
 
 use crate::reading::ABSENT;
-use ground::{Address, Sap};
-use telegram::{AddressOption, SapOption};
+use ground::{Address, Refusal, Sap};
 use telegram_tx::{
-    CodedHeader, TelegramTxResponse, TelegramTxResult, send_coded_telegram,
-    send_short_confirmation, send_token_telegram,
+    CodedHeader, TelegramTxResponse, send_coded_telegram, send_short_confirmation,
+    send_token_telegram,
 };
 
-fn sap_of(n: usize) -> SapOption
+fn sap_of(n: usize) -> Option<Sap>
     ensures { result ≡ sap_of n }
 {
-    if n < 256 {
-        return SapOption::Some(Sap(n as u8));
-    }
-    SapOption::None
+    u8::try_from(n).ok().map(Sap)
 }
 
 fn header_of(da: u8, sa: u8, dsap: usize, ssap: usize, code: u8) -> CodedHeader
     ensures { result ≡ coded_header da sa dsap ssap code }
 {
-    let d = sap_of(dsap);
-    let s = sap_of(ssap);
     CodedHeader {
         da: Address(da),
         sa: Address(sa),
-        dsap: d,
-        ssap: s,
+        dsap: sap_of(dsap),
+        ssap: sap_of(ssap),
         code,
     }
 }
 
-fn address_number(address: AddressOption) -> usize
-    ensures { result ≡ address_number address }
+fn code_of(res: Result<TelegramTxResponse, Refusal>) -> u8
+    ensures { (buf : List ℕ) → record { code = result; buffer = buf } ≡ bare_call (shown_writing res) buf }
 {
-    match address {
-        AddressOption::Some(a) => a.0 as usize,
-        AddressOption::None => ABSENT,
+    match res {
+        Ok(_) => 0,
+        Err(refusal) => refusal.number(),
     }
 }
 
-fn tell(res: TelegramTxResult, told: &mut [usize; 2]) -> u8
+fn tell(res: Result<TelegramTxResponse, Refusal>, told: &mut [usize; 2]) -> u8
     ensures { (buf : List ℕ) → record { code = result; told = told.new; buffer = buf } ≡ write_call (shown_writing res) told.old buf }
 {
     match res {
-        TelegramTxResult::Sent(response) => {
-            *told = sent_told(response);
+        Ok(response) => {
+            let replier = response.expects_reply().map_or(ABSENT, |a| a.0 as usize);
+            *told = [response.bytes_sent(), replier];
             0
         }
-        TelegramTxResult::Refused(refusal) => refusal.number(),
+        Err(refusal) => refusal.number(),
     }
-}
-
-fn sent_told(response: TelegramTxResponse) -> [usize; 2]
-    ensures { result ≡ response.bytes_sent ∷ address_number response.expects_reply ∷ [] }
-{
-    let bytes = response.bytes_sent();
-    let replier = address_number(response.expects_reply());
-    [bytes, replier]
 }
 
 // Refusals 4, 8, 9, 10, in this order.
@@ -80,15 +67,6 @@ pub fn koy_write_data(
 {
     let header = header_of(da, sa, dsap, ssap, fc);
     tell(send_coded_telegram(header, pdu, buf), told)
-}
-
-fn code_of(res: TelegramTxResult) -> u8
-    ensures { (buf : List ℕ) → record { code = result; buffer = buf } ≡ bare_call (shown_writing res) buf }
-{
-    match res {
-        TelegramTxResult::Sent(_) => 0,
-        TelegramTxResult::Refused(refusal) => refusal.number(),
-    }
 }
 
 pub fn koy_write_token(da: u8, sa: u8, buf: &mut [u8]) -> u8

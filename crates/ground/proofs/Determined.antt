@@ -5,8 +5,8 @@ use Rattle.ground.specs.contracts.buffers.copy_to_front as copy_to_front
 use Rattle.ground.proofs.buffers.copy_to_front.Reads as copy_to_front_reads
 use Rattle.ground.specs.contracts.part.Part.show as show
 use Rattle.ground.proofs.part.Part.show.Reads as show_reads
-use Rattle.ground.specs.contracts.refusal.Answer.number as answer_number
-use Rattle.ground.proofs.refusal.Answer.number.Reads as answer_number_reads
+use Rattle.ground.specs.contracts.refusal.answer_number as answer_number
+use Rattle.ground.proofs.refusal.answer_number.Reads as answer_number_reads
 use Rattle.ground.specs.contracts.refusal.Refusal.number as refusal_number
 use Rattle.ground.proofs.refusal.Refusal.number.Reads as refusal_number_reads
 use Rattle.ground.specs.Determined.{Determined, ShownDetermined}

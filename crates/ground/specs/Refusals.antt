@@ -1,7 +1,5 @@
 -- Document 01, "Refusal numbers": the number of each refusal, and when it is given.
-use Rattle.std.specs.Prelude.{ℕ}
-use Rattle.ground.specs.declared.refusal.Answer.{Answer}
-use Rattle.ground.specs.declared.refusal.Answer.TheVariants.{Done, Refused}
+use Rattle.std.specs.Prelude.{ℕ, Err, Ok, Result}
 use Rattle.ground.specs.declared.refusal.Refusal.{Refusal}
 use Rattle.ground.specs.declared.refusal.Refusal.TheVariants.{UnknownStart, LengthsDiffer, LengthTooSmall, FunctionCode, SapMissing, Checksum, EndDelimiter, AddressTooLarge, TooLong, NoRoom, NotAStation, BlockCutOff, BlockReserved, BlockLengthZero, CycleInactive, OrderLength, OrderPending, LinkAddresses, Tries, SettingsForm, NoReplyOwed, InputTooLong}
 
@@ -52,9 +50,9 @@ number_of NoReplyOwed = 21
 number_of InputTooLong = 22
 
 -- an answer as its number: 0 where the call was done, else the number of its refusal
-abbrev pub shown : Answer → ℕ
-shown Done = 0
-shown (Refused refusal) = number_of refusal
+abbrev pub shown : Result Unit Refusal → ℕ
+shown (Ok tt) = 0
+shown (Err refusal) = number_of refusal
 
 -- what a call gives, or the number of its refusal
 pub data OrRefused (A : Type 0) : Type 0 where

@@ -1,80 +1,49 @@
-// Every refusal and its number, and the answer of a call that may refuse. Promise: `number_of` and `shown` in specs/Refusals.antt.
+// Every refusal and its number, and the number of an answer. Promise: `number_of` and `shown` in specs/Refusals.antt.
 ghost use Rattle.std.specs.Prelude.{◌≡◌};
 ghost use Rattle.ground.specs.Refusals.{number_of, shown};
 
-// Every refusal that a call can answer, in the order of its number. specs/Refusals.antt says when each is given.
-#[derive(Clone, Copy)]
+// Every refusal that a call can answer, with its number. specs/Refusals.antt says when each is given.
+#[derive(Clone, Copy, Debug, PartialEq, Eq)]
 pub enum Refusal {
-    UnknownStart,
-    LengthsDiffer,
-    LengthTooSmall,
-    FunctionCode,
-    SapMissing,
-    Checksum,
-    EndDelimiter,
-    AddressTooLarge,
-    TooLong,
-    NoRoom,
-    NotAStation,
-    BlockCutOff,
-    BlockReserved,
-    BlockLengthZero,
-    CycleInactive,
-    OrderLength,
-    OrderPending,
-    LinkAddresses,
-    Tries,
-    SettingsForm,
-    NoReplyOwed,
-    InputTooLong,
+    UnknownStart = 1,
+    LengthsDiffer = 2,
+    LengthTooSmall = 3,
+    FunctionCode = 4,
+    SapMissing = 5,
+    Checksum = 6,
+    EndDelimiter = 7,
+    AddressTooLarge = 8,
+    TooLong = 9,
+    NoRoom = 10,
+    NotAStation = 11,
+    BlockCutOff = 12,
+    BlockReserved = 13,
+    BlockLengthZero = 14,
+    CycleInactive = 15,
+    OrderLength = 16,
+    OrderPending = 17,
+    LinkAddresses = 18,
+    Tries = 19,
+    SettingsForm = 20,
+    NoReplyOwed = 21,
+    InputTooLong = 22,
 }
 
 impl Refusal {
+    // A call with a name and no `From`: what `refusal.number()` tells is read off it.
     pub fn number(self) -> u8
         ensures { result ≡ number_of self }
     {
-        match self {
-            Refusal::UnknownStart => 1,
-            Refusal::LengthsDiffer => 2,
-            Refusal::LengthTooSmall => 3,
-            Refusal::FunctionCode => 4,
-            Refusal::SapMissing => 5,
-            Refusal::Checksum => 6,
-            Refusal::EndDelimiter => 7,
-            Refusal::AddressTooLarge => 8,
-            Refusal::TooLong => 9,
-            Refusal::NoRoom => 10,
-            Refusal::NotAStation => 11,
-            Refusal::BlockCutOff => 12,
-            Refusal::BlockReserved => 13,
-            Refusal::BlockLengthZero => 14,
-            Refusal::CycleInactive => 15,
-            Refusal::OrderLength => 16,
-            Refusal::OrderPending => 17,
-            Refusal::LinkAddresses => 18,
-            Refusal::Tries => 19,
-            Refusal::SettingsForm => 20,
-            Refusal::NoReplyOwed => 21,
-            Refusal::InputTooLong => 22,
-        }
+        self as u8
     }
 }
 
-// The answer of a call that does what it is asked, or refuses it.
-#[derive(Clone, Copy)]
-pub enum Answer {
-    Done,
-    Refused(Refusal),
-}
-
-impl Answer {
-    // 0 where it was done, else the refusal's number: what a driver in another language is handed.
-    pub fn number(self) -> u8
-        ensures { result ≡ shown self }
-    {
-        match self {
-            Answer::Done => 0,
-            Answer::Refused(refusal) => refusal.number(),
-        }
+// 0 where a call did what it was asked, else the refusal's number. (A function of its own, since `Result` is the library's type.)
+pub fn answer_number(answer: Result<(), Refusal>) -> u8
+    ensures { result ≡ shown answer }
+{
+    match answer {
+        Ok(()) => 0,
+        Err(refusal) => refusal.number(),
     }
 }

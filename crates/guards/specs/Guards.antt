@@ -1,6 +1,6 @@
 -- What an end is lent beside its record: a guard. Stamps are the driver's: of any clock or count that never goes back.
 -- Read `is_stale`, `stamp_after`, `number_after`.
-use Rattle.std.specs.Prelude.{ℕ, ◌+◌, Bool, List, [], ◌∷◌, eqb, leb, ltb, get_or}
+use Rattle.std.specs.Prelude.{ℕ, ◌+◌, Bool, List, eqb, leb, ltb, get_or}
 use Rattle.ground.specs.Pick.{if}
 
 -- the stamp of the end's last call that wrote a telegram, or of its making

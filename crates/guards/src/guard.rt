@@ -1,32 +1,23 @@
 // A guard after a call, by the code that the call gave. Promises: `specs/Guards.antt`.
 ghost use Rattle.std.specs.Prelude.{◌≡◌};
-ghost use Rattle.guards.specs.Guards.{later_of, next_of, stamp_after, number_after, number_told};
+ghost use Rattle.guards.specs.Guards.{next_of, stamp_after, number_after, number_told};
 
-// A telegram stands at the front of the buffer.
+// Codes of the C interface, whose calls answer a byte. A telegram stands at the front of the buffer:
 const SENT: u8 = 102;
-// An order is handed up.
+// an order is handed up:
 const HANDED_UP: u8 = 106;
 
-fn later(last: usize, moment: usize) -> usize
-    ensures { result ≡ later_of last moment }
-{
-    if last < moment { moment } else { last }
-}
-
+// The number after this one, which is 0 behind the greatest.
 fn next(n: usize) -> usize
     ensures { result ≡ next_of n }
 {
-    if n < 18446744073709551615 { n + 1 } else { 0 }
+    n.wrapping_add(1)
 }
 
 pub fn stamp_after(code: u8, last: usize, moment: usize) -> usize
     ensures { result ≡ stamp_after code last moment }
 {
-    if code == SENT {
-        later(last, moment)
-    } else {
-        last
-    }
+    if code == SENT { last.max(moment) } else { last }
 }
 
 pub fn number_after(code: u8, handed: usize) -> usize

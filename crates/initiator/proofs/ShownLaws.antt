@@ -1,10 +1,13 @@
 -- The definitions through which the promises see an answer of the initiator tell its values apart: what is seen leads back to the answer.
 -- Read `said_injective`, `turn_injective`, `parts_injective`, `made_injective`.
+use Rattle.std.proofs.Common.{Result}
 use Prim.Native.Nat.{ℕ}
 use mathlib.Core.List.{List}
 use mathlib.Core.Path.{◌≡◌, refl, ap}
 use Rattle.ground.proofs.Injective.{injective}
 use Rattle.ground.proofs.RefusalLaws.{refusal_again, shown_injective}
+use Rattle.ground.specs.declared.refusal.Refusal.{Refusal}
+use Rattle.ground.specs.declared.returned.Returned.{Returned}
 use Rattle.initiator.specs.Calls.{Outcome, confirmed, not_sent, unknown, shown_said, shown_turn}
 use Rattle.initiator.specs.Heads.{shown_on}
 use Rattle.initiator.specs.Records.{shown_made}
@@ -12,10 +15,9 @@ use Rattle.link_telegrams.proofs.TurnLaws.{said_back}
 use Rattle.link_telegrams.specs.Turns.{Said}
 use Rattle.initiator.specs.declared.answer.InitiatorAnswer.{InitiatorAnswer}
 use Rattle.initiator.specs.declared.answer.InitiatorAnswer.TheVariants as answer
-use Rattle.initiator.specs.declared.answer.InitiatorTurn.{InitiatorTurn}
 use Rattle.initiator.specs.declared.head.InitiatorHead.{InitiatorHead}
 use Rattle.initiator.specs.declared.head.InitiatorHeadTurn.{InitiatorHeadTurn}
-use Rattle.initiator.specs.declared.state.InitiatorMade.{InitiatorMade}
+use Rattle.initiator.specs.declared.state.Initiator.{Initiator}
 
 -- what a call says
 abbrev outcome_back : Outcome → InitiatorAnswer
@@ -38,9 +40,9 @@ pub said_injective : (x y : InitiatorAnswer) → shown_said x ≡ shown_said y �
 said_injective = injective shown_said answer_back said_again
 
 -- a whole call, with the lent buffer
-pub turn_injective : (x y : InitiatorTurn) (b c : List ℕ) → shown_turn x b ≡ shown_turn y c → (x ≡ y) × (b ≡ c)
+pub turn_injective : (x y : Returned InitiatorAnswer Initiator) (b c : List ℕ) → shown_turn x b ≡ shown_turn y c → (x ≡ y) × (b ≡ c)
 turn_injective x y b c e = (
-  λ i. record { answer = said_injective x.answer y.answer (λ j. (e j).said) i; initiator = (e i).end },
+  λ i. record { answer = said_injective x.answer y.answer (λ j. (e j).said) i; after = (e i).end },
   λ i. (e i).buffer,
 )
 
@@ -56,5 +58,5 @@ parts_injective head x y k l b c e = (
   (λ i. (e i).end.order, λ i. (e i).buffer),
 )
 
-pub made_injective : (x y : InitiatorMade) → shown_made x ≡ shown_made y → x ≡ y
-made_injective x y e i = record { answer = shown_injective x.answer y.answer (λ j. (e j).number) i; initiator = (e i).end }
+pub made_injective : (x y : Returned (Result Unit Refusal) Initiator) → shown_made x ≡ shown_made y → x ≡ y
+made_injective x y e i = record { answer = shown_injective x.answer y.answer (λ j. (e j).number) i; after = (e i).end }

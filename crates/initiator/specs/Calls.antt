@@ -5,10 +5,10 @@ use Rattle.ground.specs.Front.{copied_to}
 use Rattle.ground.specs.Pick.{if}
 use Rattle.ground.specs.Refusals.{number_of}
 use Rattle.ground.specs.declared.part.Part.{Part}
+use Rattle.ground.specs.declared.returned.Returned.{Returned}
 use Rattle.initiator.specs.Records.{order_of}
 use Rattle.initiator.specs.declared.answer.InitiatorAnswer.{InitiatorAnswer}
 use Rattle.initiator.specs.declared.answer.InitiatorAnswer.TheVariants as answer
-use Rattle.initiator.specs.declared.answer.InitiatorTurn.{InitiatorTurn}
 use Rattle.initiator.specs.declared.state.Initiator.{Initiator}
 use Rattle.initiator.specs.declared.state.Phase.{Phase}
 use Rattle.initiator.specs.declared.state.Phase.TheVariants.{Closed, Ready, Opening, Order}
@@ -37,8 +37,8 @@ shown_said (answer.Unknown tries) = tells (unknown tries)
 shown_said answer.Nothing = nothing
 shown_said (answer.Refused refusal) = refused (number_of refusal)
 
-abbrev pub shown_turn : InitiatorTurn → List ℕ → Turn Initiator Outcome
-shown_turn t buf = saying (shown_said t.answer) t.initiator buf
+abbrev pub shown_turn : Returned InitiatorAnswer Initiator → List ℕ → Turn Initiator Outcome
+shown_turn t buf = saying (shown_said t.answer) t.after buf
 
 -- the record in another phase
 abbrev pub in_phase : Initiator → Phase → Initiator

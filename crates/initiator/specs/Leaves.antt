@@ -1,5 +1,5 @@
 -- What private functions promise each other. Nothing here has to be believed: no promise of a public call cites it.
-use Rattle.std.specs.Prelude.{ℕ, Bool, true, false, List, ◌≡◌, length}
+use Rattle.std.specs.Prelude.{ℕ, Bool, true, false, List, ◌≡◌, length, Err, Ok, Result}
 use Rattle.ground.specs.Pick.{if}
 use Rattle.initiator.specs.declared.answer.InitiatorAnswer.{InitiatorAnswer}
 use Rattle.initiator.specs.declared.answer.InitiatorAnswer.TheVariants as answer
@@ -14,8 +14,8 @@ use Rattle.link_telegrams.specs.Headers.{opening_header, order_header}
 use Rattle.link_telegrams.specs.Turns.{Said, tells, nothing}
 use Rattle.telegram.specs.declared.header.DataTelegramHeader.{DataTelegramHeader}
 use Rattle.telegram_tx.specs.Writing.{shown_writing, write_of, buffer_of}
-use Rattle.telegram_tx.specs.declared.tx.TelegramTxResult.{TelegramTxResult}
-use Rattle.telegram_tx.specs.declared.tx.TelegramTxResult.TheVariants as tx
+use Rattle.ground.specs.declared.refusal.Refusal.{Refusal}
+use Rattle.telegram_tx.specs.declared.tx.TelegramTxResponse.{TelegramTxResponse}
 
 -- the head of a record
 abbrev pub head_part : Initiator → InitiatorHead
@@ -26,9 +26,9 @@ abbrev pub staying : InitiatorAnswer → InitiatorHead → InitiatorHeadTurn
 staying answer head = record { answer = answer; phase = head.phase; len = head.len }
 
 -- the writer's answer: the head goes on in another phase where it wrote, and stays where it refused
-abbrev pub written_of : TelegramTxResult → InitiatorHead → Phase → ℕ → InitiatorHeadTurn
-written_of (tx.Sent response) head phase len = record { answer = answer.Sent response.bytes_sent; phase = phase; len = len }
-written_of (tx.Refused refusal) head phase len = staying (answer.Refused refusal) head
+abbrev pub written_of : Result TelegramTxResponse Refusal → InitiatorHead → Phase → ℕ → InitiatorHeadTurn
+written_of (Ok response) head phase len = record { answer = answer.Sent response.bytes_sent; phase = phase; len = len }
+written_of (Err refusal) head phase len = staying (answer.Refused refusal) head
 
 -- the header of the telegram of a phase
 abbrev pub header_in : Link → Phase → DataTelegramHeader
@@ -59,7 +59,7 @@ given_up (Order b k) = tells (unknown k)
 
 -- the functions that write the telegram of a phase: the writer's answer, and the buffer
 pub record Wrote (head : InitiatorHead) (phase : Phase) (len : ℕ) (pdu : List ℕ) (t : InitiatorHeadTurn) (before after : List ℕ) : Type 0 where
-  pub result : TelegramTxResult
+  pub result : Result TelegramTxResponse Refusal
   pub answered : shown_writing result ≡ write_of (header_in head.link phase) pdu (length before)
   pub turn : t ≡ written_of result head phase len
   pub buffer : after ≡ buffer_of (header_in head.link phase) pdu before

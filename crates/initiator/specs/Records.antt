@@ -1,12 +1,13 @@
 -- Document 01, "Initiator": its record, how one is made, and what may be asked of it. Read `made_of` and
 -- `order_of`.
-use Rattle.std.specs.Prelude.{ℕ, Bool, true, false, List, leb, take, replicate}
+use Rattle.std.specs.Prelude.{ℕ, Bool, true, false, List, Result, leb, take, replicate}
 use Rattle.ground.specs.Pick.{if}
 use Rattle.ground.specs.Refusals.{shown}
+use Rattle.ground.specs.declared.refusal.Refusal.{Refusal}
+use Rattle.ground.specs.declared.returned.Returned.{Returned}
 use Rattle.codes.specs.declared.frame_count_bit.FrameCountBit.{FrameCountBit}
 use Rattle.codes.specs.declared.frame_count_bit.FrameCountBit.TheVariants.{First}
 use Rattle.initiator.specs.declared.state.Initiator.{Initiator}
-use Rattle.initiator.specs.declared.state.InitiatorMade.{InitiatorMade}
 use Rattle.initiator.specs.declared.state.Phase.{Phase}
 use Rattle.initiator.specs.declared.state.Phase.TheVariants.{Closed, Ready, Opening, Order}
 use Rattle.link_rules.specs.Rules.{longest, wrong_addresses, wrong_tries, no_link}
@@ -20,8 +21,8 @@ closed_of link tries =
     record { link = link; tries = tries; phase = Closed; order = replicate longest 0; len = 0 }
 
 -- the answer's number, and the record
-abbrev pub shown_made : InitiatorMade → Made Initiator
-shown_made m = record { number = shown m.answer; end = m.initiator }
+abbrev pub shown_made : Returned (Result Unit Refusal) Initiator → Made Initiator
+shown_made m = record { number = shown m.answer; end = m.after }
 
 -- "Settings 20, 18, 19": 18 before 19
 unfoldable pub made_of : Link → ℕ → Made Initiator

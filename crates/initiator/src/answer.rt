@@ -1,8 +1,8 @@
-use crate::state::Initiator;
 use ground::{Part, Refusal};
 
 // What a call says. An outcome reports the tries of its last phase: the telegrams written in it.
-#[derive(Clone, Copy)]
+// (No `Result`: a refusal is one of the things that document 01 lets a call say, and none of the others is its one success.)
+#[derive(Clone, Copy, Debug, PartialEq, Eq)]
 pub enum InitiatorAnswer {
     // A telegram of so many bytes stands at the front of the buffer.
     Sent(usize),
@@ -14,10 +14,4 @@ pub enum InitiatorAnswer {
     Unknown(u8),
     Nothing,
     Refused(Refusal),
-}
-
-#[derive(Clone, Copy)]
-pub struct InitiatorTurn {
-    pub answer: InitiatorAnswer,
-    pub initiator: Initiator,
 }

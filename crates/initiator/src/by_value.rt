@@ -1,77 +1,76 @@
 // The same calls on a whole record by value, for programs of this language: the order goes in and comes back with it. Promises:
 // `specs/Calls.antt`.
-ghost use Rattle.std.specs.Prelude.{◌≡◌, List, [], ℕ};
+ghost use Rattle.std.specs.Prelude.{◌≡◌, []};
 ghost use Rattle.initiator.specs.Calls.{shown_turn, submit_of, silence_of, hear_of, restart_of};
-ghost use Rattle.initiator.specs.Heads.{shown_on};
+ghost use Rattle.initiator.specs.Heads.{head_after, whole_of};
 ghost use Rattle.initiator.specs.Leaves.{head_part};
 
-use crate::answer::InitiatorTurn;
+use crate::answer::InitiatorAnswer;
 use crate::head::{InitiatorHead, InitiatorHeadTurn};
 use crate::state::Initiator;
+use ground::Returned;
 
 fn head_of(initiator: Initiator) -> InitiatorHead
     ensures { result ≡ head_part initiator }
 {
-    let link = initiator.link;
-    let phase = initiator.phase;
     InitiatorHead {
-        link,
+        link: initiator.link,
         tries: initiator.tries,
-        phase,
+        phase: initiator.phase,
         len: initiator.len,
     }
 }
 
-fn whole_turn(turn: InitiatorHeadTurn, given: Initiator, order: [u8; 246]) -> InitiatorTurn
-    ensures { (buf : List ℕ) → shown_turn result buf ≡ shown_on turn (head_part given) order buf }
+fn whole_turn(
+    turn: InitiatorHeadTurn,
+    given: Initiator,
+    order: [u8; 246],
+) -> Returned<InitiatorAnswer, Initiator>
+    ensures { result ≡ record { answer = turn.answer; after = whole_of (head_after turn (head_part given)) order } }
 {
-    let answer = turn.answer;
-    let link = given.link;
-    let phase = turn.phase;
-    let initiator = Initiator {
-        link,
+    let after = Initiator {
+        link: given.link,
         tries: given.tries,
-        phase,
+        phase: turn.phase,
         order,
         len: turn.len,
     };
-    InitiatorTurn { answer, initiator }
+    Returned {
+        answer: turn.answer,
+        after,
+    }
 }
 
 impl Initiator {
-    pub fn submit(self, order: &[u8], buf: &mut [u8]) -> InitiatorTurn
+    #[tactic(auto, using(crate::proofs::HeadLaws::submit_lent))]
+    pub fn submit(self, order: &[u8], buf: &mut [u8]) -> Returned<InitiatorAnswer, Initiator>
         ensures { shown_turn result buf.new ≡ submit_of self order.now buf.old }
     {
         let mut kept = self.order;
-        let head = head_of(self);
-        let turn = head.submit(&mut kept, order, buf);
+        let turn = head_of(self).submit(&mut kept, order, buf);
         whole_turn(turn, self, kept)
     }
 
-    pub fn silence(self, buf: &mut [u8]) -> InitiatorTurn
+    #[tactic(auto, using(crate::proofs::HeadLaws::silence_lent))]
+    pub fn silence(self, buf: &mut [u8]) -> Returned<InitiatorAnswer, Initiator>
         ensures { shown_turn result buf.new ≡ silence_of self buf.old }
     {
-        let kept = self.order;
-        let head = head_of(self);
-        let turn = head.silence(&kept, buf);
-        whole_turn(turn, self, kept)
+        let turn = head_of(self).silence(&self.order, buf);
+        whole_turn(turn, self, self.order)
     }
 
-    pub fn hear(self, heard: &[u8], buf: &mut [u8]) -> InitiatorTurn
+    #[tactic(auto, using(crate::proofs::HeadLaws::hear_lent))]
+    pub fn hear(self, heard: &[u8], buf: &mut [u8]) -> Returned<InitiatorAnswer, Initiator>
         ensures { shown_turn result buf.new ≡ hear_of self heard.now buf.old }
     {
-        let kept = self.order;
-        let head = head_of(self);
-        let turn = head.hear(&kept, heard, buf);
-        whole_turn(turn, self, kept)
+        let turn = head_of(self).hear(&self.order, heard, buf);
+        whole_turn(turn, self, self.order)
     }
 
-    pub fn restart(self) -> InitiatorTurn
+    pub fn restart(self) -> Returned<InitiatorAnswer, Initiator>
         ensures { shown_turn result [] ≡ restart_of self }
     {
-        let kept = self.order;
-        let head = head_of(self);
-        let turn = head.restart();
-        whole_turn(turn, self, kept)
+        let turn = head_of(self).restart();
+        whole_turn(turn, self, self.order)
     }
 }

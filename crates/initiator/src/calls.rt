@@ -28,8 +28,7 @@ fn hear_opening_reply(
 {
     match heard {
         ReplyHeard::Ok => send_kept(head, Bit::Low, 1, kept, buf),
-        ReplyHeard::Reply(_) => nothing(head),
-        ReplyHeard::Nothing => nothing(head),
+        ReplyHeard::Reply(_) | ReplyHeard::Nothing => nothing(head),
     }
 }
 
@@ -38,12 +37,11 @@ fn hear_order_reply(head: InitiatorHead, bit: Bit, used: u8, heard: ReplyHeard) 
     ensures { (kept buf : List ℕ) → shown_on result head kept buf ≡ awaiting_reply bit used heard (whole_of head kept) buf }
 {
     match heard {
-        ReplyHeard::Ok => nothing(head),
         ReplyHeard::Reply(reply) => {
             let open = Phase::Ready(bit.cycle());
             end(InitiatorAnswer::Confirmed(reply, used), open)
         }
-        ReplyHeard::Nothing => nothing(head),
+        ReplyHeard::Ok | ReplyHeard::Nothing => nothing(head),
     }
 }
 
@@ -54,8 +52,7 @@ fn first_phase(phase: Phase) -> Phase
     match phase {
         Phase::Closed => Phase::Opening(1),
         Phase::Ready(bit) => Phase::Order(bit, 1),
-        Phase::Opening(_) => phase,
-        Phase::Order(_, _) => phase,
+        Phase::Opening(_) | Phase::Order(_, _) => phase,
     }
 }
 
@@ -64,10 +61,8 @@ fn first_len(phase: Phase, len: usize) -> usize
     ensures { result ≡ first_len phase len }
 {
     match phase {
-        Phase::Closed => 0,
         Phase::Ready(_) => len,
-        Phase::Opening(_) => 0,
-        Phase::Order(_, _) => 0,
+        Phase::Closed | Phase::Opening(_) | Phase::Order(_, _) => 0,
     }
 }
 
@@ -76,8 +71,7 @@ fn given_up(phase: Phase) -> InitiatorAnswer
     ensures { shown_said result ≡ given_up phase }
 {
     match phase {
-        Phase::Closed => InitiatorAnswer::Nothing,
-        Phase::Ready(_) => InitiatorAnswer::Nothing,
+        Phase::Closed | Phase::Ready(_) => InitiatorAnswer::Nothing,
         Phase::Opening(used) => InitiatorAnswer::NotSent(used),
         Phase::Order(_, used) => InitiatorAnswer::Unknown(used),
     }
@@ -85,6 +79,7 @@ fn given_up(phase: Phase) -> InitiatorAnswer
 
 impl InitiatorHead {
     // What a submission says and writes. Refusals 10, 17, 16, in this order.
+    #[tactic(auto, using(crate::proofs::CallLaws::submit_short, crate::proofs::HeadLaws::submit_pending, crate::proofs::HeadLaws::submit_wrong, crate::proofs::HeadLaws::submit_begins, crate::proofs::HeadLaws::wrote_shown))]
     fn begin(self, order: &[u8], buf: &mut [u8]) -> InitiatorHeadTurn
         ensures { (kept : List ℕ) → longest ≤ length kept
             → shown_on result self (kept_after result.answer kept (copied_to kept order.now)) buf.new
@@ -93,16 +88,15 @@ impl InitiatorHead {
         if buf.len() < ROOM {
             return refuse(self, Refusal::NoRoom);
         }
-        let phase = self.phase;
-        if phase.is_pending() {
+        if self.phase.is_pending() {
             return refuse(self, Refusal::OrderPending);
         }
         let len = order.len();
         if wrong_length(len) {
             return refuse(self, Refusal::OrderLength);
         }
-        let first = first_phase(phase);
-        let shown = first_len(phase, len);
+        let first = first_phase(self.phase);
+        let shown = first_len(self.phase, len);
         send(self, first, len, &order[..shown], buf)
     }
 
@@ -114,28 +108,22 @@ impl InitiatorHead {
             return refuse(self, Refusal::NoRoom);
         }
         let turn = self.begin(order, buf);
-        let answer = turn.answer;
-        if was_sent(answer) {
+        if was_sent(turn.answer) {
             copy_to_front(order, kept);
-            return turn;
         }
         turn
     }
 
+    #[tactic(auto, using(crate::proofs::HeadLaws::wrote_same), unfolding(crate::specs::Calls::silence_of))]
     pub fn silence(self, kept: &[u8], buf: &mut [u8]) -> InitiatorHeadTurn
         ensures { shown_on result self kept.now buf.new ≡ silence_on self kept.now buf.old }
     {
-        if kept.len() < LONGEST {
-            return refuse(self, Refusal::NoRoom);
-        }
-        if buf.len() < ROOM {
+        if kept.len() < LONGEST || buf.len() < ROOM {
             return refuse(self, Refusal::NoRoom);
         }
         let tries = self.tries;
-        let phase = self.phase;
-        match phase {
-            Phase::Closed => nothing(self),
-            Phase::Ready(_) => nothing(self),
+        match self.phase {
+            Phase::Closed | Phase::Ready(_) => nothing(self),
             Phase::Opening(used) => {
                 if used < tries {
                     send(self, Phase::Opening(used + 1), self.len, b"", buf)
@@ -153,30 +141,25 @@ impl InitiatorHead {
         }
     }
 
+    #[tactic(auto, unfolding(crate::specs::Calls::hear_of))]
     pub fn hear(self, kept: &[u8], heard: &[u8], buf: &mut [u8]) -> InitiatorHeadTurn
         ensures { shown_on result self kept.now buf.new ≡ hear_on self kept.now heard.now buf.old }
     {
-        if kept.len() < LONGEST {
+        if kept.len() < LONGEST || buf.len() < ROOM {
             return refuse(self, Refusal::NoRoom);
         }
-        if buf.len() < ROOM {
-            return refuse(self, Refusal::NoRoom);
-        }
-        let link = self.link;
-        let phase = self.phase;
-        let reply = reply_heard(link, heard);
-        match phase {
-            Phase::Closed => nothing(self),
-            Phase::Ready(_) => nothing(self),
+        let reply = reply_heard(self.link, heard);
+        match self.phase {
+            Phase::Closed | Phase::Ready(_) => nothing(self),
             Phase::Opening(_) => hear_opening_reply(self, reply, kept, buf),
             Phase::Order(bit, used) => hear_order_reply(self, bit, used, reply),
         }
     }
 
+    #[tactic(auto, using(crate::proofs::HeadLaws::restart_gives_up))]
     pub fn restart(self) -> InitiatorHeadTurn
         ensures { (kept : List ℕ) → shown_on result self kept [] ≡ restart_of (whole_of self kept) }
     {
-        let phase = self.phase;
-        end(given_up(phase), Phase::Closed)
+        end(given_up(self.phase), Phase::Closed)
     }
 }

@@ -12,9 +12,9 @@ use ground::Refusal;
 use link_rules::{LONGEST, Link};
 use link_telegrams::{Bit, opening_header, order_header};
 use telegram::DataTelegramHeader;
-use telegram_tx::{TelegramTxResult, send_data_telegram};
+use telegram_tx::{TelegramTxResponse, send_data_telegram};
 
-#[derive(Clone, Copy)]
+#[derive(Clone, Copy, Debug, PartialEq, Eq)]
 pub struct InitiatorHead {
     pub link: Link,
     pub tries: u8,
@@ -23,8 +23,8 @@ pub struct InitiatorHead {
     pub len: usize,
 }
 
-// What a call on a head says, and what of the head is another now: its link and its tries never change.
-#[derive(Clone, Copy)]
+// What a call on a head says, and what of the head is another now. No `Returned`: link and tries never change, so they do not come back.
+#[derive(Clone, Copy, Debug, PartialEq, Eq)]
 pub struct InitiatorHeadTurn {
     pub answer: InitiatorAnswer,
     pub phase: Phase,
@@ -42,45 +42,38 @@ pub(crate) fn end(answer: InitiatorAnswer, phase: Phase) -> InitiatorHeadTurn
     }
 }
 
+// Nothing of the head changes.
+fn stay(answer: InitiatorAnswer, head: InitiatorHead) -> InitiatorHeadTurn
+    ensures { result ≡ staying answer head }
+{
+    InitiatorHeadTurn {
+        answer,
+        phase: head.phase,
+        len: head.len,
+    }
+}
+
 pub(crate) fn refuse(head: InitiatorHead, refusal: Refusal) -> InitiatorHeadTurn
     ensures { result ≡ staying (InitiatorAnswer.Refused refusal) head }
 {
-    let answer = InitiatorAnswer::Refused(refusal);
-    let phase = head.phase;
-    InitiatorHeadTurn {
-        answer,
-        phase,
-        len: head.len,
-    }
+    stay(InitiatorAnswer::Refused(refusal), head)
 }
 
 pub(crate) fn nothing(head: InitiatorHead) -> InitiatorHeadTurn
     ensures { result ≡ staying InitiatorAnswer.Nothing head }
 {
-    let phase = head.phase;
-    InitiatorHeadTurn {
-        answer: InitiatorAnswer::Nothing,
-        phase,
-        len: head.len,
-    }
+    stay(InitiatorAnswer::Nothing, head)
 }
 
 pub(crate) fn was_sent(answer: InitiatorAnswer) -> bool
     ensures { result ≡ was_sent answer }
 {
-    match answer {
-        InitiatorAnswer::Sent(_) => true,
-        InitiatorAnswer::Confirmed(_, _) => false,
-        InitiatorAnswer::NotSent(_) => false,
-        InitiatorAnswer::Unknown(_) => false,
-        InitiatorAnswer::Nothing => false,
-        InitiatorAnswer::Refused(_) => false,
-    }
+    matches!(answer, InitiatorAnswer::Sent(_))
 }
 
 // The call is over once the writer has answered: the head goes on where it wrote, and stays where it refused.
 fn written(
-    res: TelegramTxResult,
+    res: Result<TelegramTxResponse, Refusal>,
     head: InitiatorHead,
     phase: Phase,
     len: usize,
@@ -88,11 +81,11 @@ fn written(
     ensures { result ≡ written_of res head phase len }
 {
     match res {
-        TelegramTxResult::Sent(response) => {
+        Ok(response) => {
             let answer = InitiatorAnswer::Sent(response.bytes_sent());
             InitiatorHeadTurn { answer, phase, len }
         }
-        TelegramTxResult::Refused(refusal) => refuse(head, refusal),
+        Err(refusal) => refuse(head, refusal),
     }
 }
 
@@ -101,10 +94,8 @@ fn header_in(link: Link, phase: Phase) -> DataTelegramHeader
     ensures { result ≡ header_in link phase }
 {
     match phase {
-        Phase::Closed => opening_header(link),
-        Phase::Ready(bit) => order_header(link, bit),
-        Phase::Opening(_) => opening_header(link),
-        Phase::Order(bit, _) => order_header(link, bit),
+        Phase::Closed | Phase::Opening(_) => opening_header(link),
+        Phase::Ready(bit) | Phase::Order(bit, _) => order_header(link, bit),
     }
 }
 
@@ -118,8 +109,7 @@ pub(crate) fn send(
 ) -> InitiatorHeadTurn
     ensures { Wrote head phase len pdu.now result buf.old buf.new }
 {
-    let link = head.link;
-    let result = send_data_telegram(header_in(link, phase), pdu, buf);
+    let result = send_data_telegram(header_in(head.link, phase), pdu, buf);
     written(result, head, phase, len)
 }
 
@@ -143,7 +133,6 @@ impl InitiatorHead {
     pub fn order_len(self) -> usize
         ensures { (kept : List ℕ) → result ≡ len_of (whole_of self kept) }
     {
-        let len = self.len;
-        if len <= LONGEST { len } else { LONGEST }
+        self.len.min(LONGEST)
     }
 }

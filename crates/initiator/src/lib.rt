@@ -7,6 +7,6 @@ pub mod calls;
 pub mod head;
 pub mod state;
 
-pub use answer::{InitiatorAnswer, InitiatorTurn};
+pub use answer::InitiatorAnswer;
 pub use head::{InitiatorHead, InitiatorHeadTurn};
-pub use state::{Initiator, InitiatorMade, Phase};
+pub use state::{Initiator, Phase};

@@ -1,15 +1,15 @@
 // The record of an initiator, how one is made, and what may be asked of it. Promises: `specs/Records.antt`.
-ghost use Rattle.std.specs.Prelude.{◌≡◌};
+ghost use Rattle.std.specs.Prelude.{◌≡◌, Err};
 ghost use Rattle.link_rules.specs.Rules.{no_link, default_tries};
 ghost use Rattle.initiator.specs.Records.{closed_of, shown_made, made_of, is_pending, used_of, bit_of, len_of};
 
 use codes::FrameCountBit;
-use ground::{Address, Answer, Refusal};
+use ground::{Address, Refusal, Returned};
 use link_rules::{DEFAULT_TRIES, LONGEST, Link, wrong_addresses, wrong_tries};
 use link_telegrams::Bit;
 
 // What the link is about. An order is pending in the last two.
-#[derive(Clone, Copy)]
+#[derive(Clone, Copy, Debug, PartialEq, Eq)]
 pub enum Phase {
     // Nothing pending, closed with First.
     Closed,
@@ -26,46 +26,42 @@ pub struct Initiator {
     pub(crate) link: Link,
     pub(crate) tries: u8,
     pub(crate) phase: Phase,
-    // The pending order is the first `len` bytes. An outcome sets `len` to 0 and leaves the array.
+    // The pending order is the first `len` bytes. An outcome sets `len` to 0 and leaves the array. (No `Vec`: the library has no heap, and
+    // the record is copied.)
     pub(crate) order: [u8; 246],
     pub(crate) len: usize,
-}
-
-#[derive(Clone, Copy)]
-pub struct InitiatorMade {
-    pub answer: Answer,
-    pub initiator: Initiator,
 }
 
 fn closed(link: Link, tries: u8) -> Initiator
     ensures { result ≡ closed_of link tries }
 {
-    let order = [0u8; 246];
     Initiator {
         link,
         tries,
         phase: Phase::Closed,
-        order,
+        order: [0; 246],
         len: 0,
     }
 }
 
 // What stands beside a refusal to make a link: its addresses are no station's, so that it writes nothing and hears nothing.
-fn not_made(refusal: Refusal) -> InitiatorMade
-    ensures { result ≡ record { answer = Answer.Refused refusal; initiator = closed_of no_link 1 } }
+fn not_made(refusal: Refusal) -> Returned<Result<(), Refusal>, Initiator>
+    ensures { result ≡ record { answer = Err refusal; after = closed_of no_link 1 } }
 {
-    let answer = Answer::Refused(refusal);
     let none = Link {
         own: Address(255),
         peer: Address(255),
     };
-    let initiator = closed(none, 1);
-    InitiatorMade { answer, initiator }
+    Returned {
+        answer: Err(refusal),
+        after: closed(none, 1),
+    }
 }
 
 impl Initiator {
     // Refusals 18 and 19, in this order.
-    pub fn new(link: Link, tries: u8) -> InitiatorMade
+    #[tactic(auto, unfolding(crate::specs::Records::made_of))]
+    pub fn new(link: Link, tries: u8) -> Returned<Result<(), Refusal>, Initiator>
         ensures { shown_made result ≡ made_of link tries }
     {
         if wrong_addresses(link) {
@@ -74,14 +70,13 @@ impl Initiator {
         if wrong_tries(tries) {
             return not_made(Refusal::Tries);
         }
-        let initiator = closed(link, tries);
-        InitiatorMade {
-            answer: Answer::Done,
-            initiator,
+        Returned {
+            answer: Ok(()),
+            after: closed(link, tries),
         }
     }
 
-    pub fn with_default_tries(link: Link) -> InitiatorMade
+    pub fn with_default_tries(link: Link) -> Returned<Result<(), Refusal>, Initiator>
         ensures { shown_made result ≡ made_of link default_tries }
     {
         Initiator::new(link, DEFAULT_TRIES)
@@ -97,15 +92,13 @@ impl Initiator {
     pub fn own(self) -> Address
         ensures { result ≡ self.link.own }
     {
-        let link = self.link;
-        link.own
+        self.link.own
     }
 
     pub fn peer(self) -> Address
         ensures { result ≡ self.link.peer }
     {
-        let link = self.link;
-        link.peer
+        self.link.peer
     }
 
     pub fn tries(self) -> u8
@@ -124,8 +117,7 @@ impl Initiator {
     pub fn order_len(self) -> usize
         ensures { result ≡ len_of self }
     {
-        let len = self.len;
-        if len <= LONGEST { len } else { LONGEST }
+        self.len.min(LONGEST)
     }
 }
 
@@ -133,12 +125,7 @@ impl Phase {
     pub fn is_pending(self) -> bool
         ensures { result ≡ is_pending self }
     {
-        match self {
-            Phase::Closed => false,
-            Phase::Ready(_) => false,
-            Phase::Opening(_) => true,
-            Phase::Order(_, _) => true,
-        }
+        matches!(self, Phase::Opening(_) | Phase::Order(_, _))
     }
 
     // The telegrams written in the phase.
@@ -146,10 +133,8 @@ impl Phase {
         ensures { result ≡ used_of self }
     {
         match self {
-            Phase::Closed => 0,
-            Phase::Ready(_) => 0,
-            Phase::Opening(used) => used,
-            Phase::Order(_, used) => used,
+            Phase::Closed | Phase::Ready(_) => 0,
+            Phase::Opening(used) | Phase::Order(_, used) => used,
         }
     }
 
@@ -158,10 +143,8 @@ impl Phase {
         ensures { result ≡ bit_of self }
     {
         match self {
-            Phase::Closed => FrameCountBit::First,
-            Phase::Ready(bit) => bit.frame_count_bit(),
-            Phase::Opening(_) => FrameCountBit::First,
-            Phase::Order(bit, _) => bit.frame_count_bit(),
+            Phase::Closed | Phase::Opening(_) => FrameCountBit::First,
+            Phase::Ready(bit) | Phase::Order(bit, _) => bit.frame_count_bit(),
         }
     }
 }

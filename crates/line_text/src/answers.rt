@@ -1,204 +1,214 @@
-// What answers are made of. Each call lays text into the buffer at a place and answers the place behind it. What would fall beyond the
-// buffer's end is dropped; `flushed` between the pieces of an answer, of which none has half the buffer's bytes, keeps that from happening.
-ghost use Rattle.std.specs.Prelude.{◌≤◌, length};
+// What answers are made of: text that is laid down and written to standard output in pieces. No `fmt::Write`: nothing here fails, and its calls
+// answer a `Result`.
+// Promises: specs/Out.antt.
+ghost use Rattle.std.specs.Prelude.{◌≡◌, [], ◌∷◌, List, ℕ, codes, drop, replicate};
+ghost use Rattle.std.specs.List.{list_any};
+ghost use Rattle.std.specs.Iterator.{IsFinite, Drains};
+ghost use Rattle.ground.specs.Refusals.{number_of};
+ghost use Rattle.text.specs.Decimal.{decimal_of};
+ghost use Rattle.line_text.specs.Out.{place_of, Lays, Laid, bool_piece, hex_piece, byte_or_dash_pieces, refused_pieces, ok_or_refused_pieces, list_pieces, is_written, touched_pieces};
 
-use crate::bytes::{find, front};
+use crate::bytes::front;
 use crate::printing::{Streams, print};
-use crate::words::NOWHERE;
-use ground::Answer;
+use ground::Refusal;
 
-// A lent array asks no proof of its length.
-pub type Out = [u8; 65536];
+const OUT: usize = 65536;
 
-// Half of the buffer and more is written out before another piece of an answer.
+// From here on what was laid down is written out before another piece, of which none has half the buffer's bytes.
 const FULL: usize = 32768;
 
-// What a subject of commands makes of a line: its answer, up to this place, or nothing, since the line's first word is none of its names.
-#[derive(Clone, Copy)]
-pub enum Answered {
-    Until(usize),
-    NotNamed,
+// (Bytes and a place: crate `text` lays into lent bytes.)
+#[derive(Drop)]
+pub struct Out<'a> {
+    streams: &'a Streams,
+    bytes: [u8; OUT],
+    to: usize,
 }
 
-pub fn flush(streams: &Streams, out: &Out, to: usize) {
-    print(streams, front(out, to));
-}
-
-pub fn flushed(streams: &Streams, out: &Out, to: usize) -> usize {
-    if to < FULL {
-        return to;
+impl<'a> Out<'a> {
+    pub fn new(streams: &'a Streams) -> Out<'a>
+        ensures streams { result.streams ≡ streams.entry }
+        ensures place { result.to ≡ 0 }
+        ensures bytes { result.bytes ≡ replicate OUT 0 }
+    {
+        Out {
+            streams,
+            bytes: [0; OUT],
+            to: 0,
+        }
     }
-    flush(streams, out, to);
-    0
-}
 
-pub fn put_char(out: &mut Out, to: usize, b: u8) -> usize {
-    text::put_byte(out, to, b)
-}
+    // Writes out what was laid down.
+    pub fn flush(&mut self)
+        ensures streams { self.new.streams ≡ self.old.streams }
+        ensures place { self.new.to ≡ 0 }
+        ensures bytes { self.new.bytes ≡ self.old.bytes }
+    {
+        print(self.streams, front(&self.bytes, self.to));
+        self.to = 0;
+    }
 
-pub fn put_text(out: &mut Out, to: usize, bytes: &[u8]) -> usize {
-    text::put_bytes(out, to, bytes)
-}
+    // Where the next piece goes.
+    #[tactic(auto, unfolding(crate::specs::Out::place_of))]
+    fn place(&mut self) -> usize
+        ensures place { result ≡ place_of self.old }
+        ensures streams { self.new.streams ≡ self.old.streams }
+        ensures bytes { self.new.bytes ≡ self.old.bytes }
+    {
+        if FULL < self.to {
+            self.flush();
+        }
+        self.to
+    }
 
-pub fn put_number(out: &mut Out, to: usize, n: usize) -> usize {
-    text::put_decimal(out, to, n)
-}
+    pub fn text(&mut self, text: &str)
+        ensures { Lays self.old text.now self.new }
+    {
+        self.raw(text.as_bytes());
+    }
 
-pub fn put_byte_number(out: &mut Out, to: usize, n: u8) -> usize {
-    put_number(out, to, n as usize)
-}
+    // Bytes as they are.
+    pub fn raw(&mut self, bytes: &[u8])
+        ensures { Lays self.old bytes.now self.new }
+    {
+        let at = self.place();
+        self.to = text::put_bytes(&mut self.bytes, at, bytes);
+    }
 
-// Why a line is no command, by the place at which its reading ended: one within the input has a word more behind it.
-fn put_reason(out: &mut Out, to: usize, place: usize) -> usize {
-    let number = if place < NOWHERE {
-        0
-    } else {
-        place - NOWHERE + 1
-    };
-    put_marked_name(
-        out,
-        to,
-        b"too many words,word missing,bad number,number above 255,bad byte string,byte string too long,room too large,bad frame count bit,bad op,unknown command,end not made yet,line too long,",
-        number,
-        b',',
-    )
-}
+    pub fn number(&mut self, n: usize)
+        ensures { Lays self.old (decimal_of n) self.new }
+    {
+        let at = self.place();
+        self.to = text::put_decimal(&mut self.bytes, at, n);
+    }
 
-// Lays the reason and a line feed behind the answer `error`, as the line after it. The place that is answered is that behind `error` alone:
-// the program tells the reason on standard error, and the next answer is laid over it.
-pub fn put_error(out: &mut Out, to: usize, place: usize) -> usize {
-    let end = put_text(out, to, b"error");
-    let reason_at = put_char(out, end, b'\n');
-    let at = put_reason(out, reason_at, place);
-    put_char(out, at, b'\n');
-    end
-}
+    pub fn byte(&mut self, n: u8)
+        ensures { Lays self.old (decimal_of n) self.new }
+    {
+        self.number(usize::from(n));
+    }
 
-// Whether the answer that starts at a place is `error`.
-pub fn is_error(out: &Out, start: usize) -> bool {
-    text::begins_at(out, start, b"error\n")
-}
+    pub fn bool(&mut self, on: bool)
+        ensures { Lays self.old (bool_piece on) self.new }
+    {
+        self.number(usize::from(on));
+    }
 
-// What joins the parts of an answer.
-pub fn put_bar(out: &mut Out, to: usize) -> usize {
-    put_text(out, to, b" | ")
-}
+    // A byte string; `-` where it is empty.
+    pub fn hex(&mut self, bytes: &[u8])
+        ensures { Lays self.old (hex_piece bytes.now) self.new }
+    {
+        if bytes.is_empty() {
+            self.text("-");
+            return;
+        }
+        let at = self.place();
+        self.to = text::put_hex(&mut self.bytes, at, bytes);
+    }
 
-// A number behind a space.
-pub fn put_next_number(out: &mut Out, to: usize, n: usize) -> usize {
-    let at = put_char(out, to, b' ');
-    put_number(out, at, n)
-}
+    // The same behind a space.
+    #[tactic(auto, using(crate::proofs::OutLaws::two))]
+    pub fn next_number(&mut self, n: usize)
+        ensures { Laid self.old (codes " " ∷ decimal_of n ∷ []) self.new }
+    {
+        self.text(" ");
+        self.number(n);
+    }
 
-pub fn put_next_byte(out: &mut Out, to: usize, n: u8) -> usize {
-    put_next_number(out, to, n as usize)
-}
+    pub fn next_byte(&mut self, n: u8)
+        ensures { Laid self.old (codes " " ∷ decimal_of n ∷ []) self.new }
+    {
+        self.next_number(usize::from(n));
+    }
 
-pub fn put_next_dash(out: &mut Out, to: usize) -> usize {
-    let at = put_char(out, to, b' ');
-    put_char(out, at, b'-')
-}
+    // A byte that may be absent, as `-` where it is.
+    #[tactic(auto, using(crate::proofs::OutLaws::one))]
+    pub fn next_byte_or_dash(&mut self, n: Option<u8>)
+        ensures { Laid self.old (byte_or_dash_pieces n) self.new }
+    {
+        match n {
+            Some(n) => self.next_byte(n),
+            None => self.text(" -"),
+        }
+    }
 
-pub fn put_bool(out: &mut Out, to: usize, on: bool) -> usize {
-    put_number(out, to, on as usize)
-}
+    #[tactic(auto, using(crate::proofs::OutLaws::two))]
+    pub fn next_hex(&mut self, bytes: &[u8])
+        ensures { Laid self.old (codes " " ∷ hex_piece bytes.now ∷ []) self.new }
+    {
+        self.text(" ");
+        self.hex(bytes);
+    }
 
-pub fn put_refused(out: &mut Out, to: usize, number: u8) -> usize {
-    let at = put_text(out, to, b"refused ");
-    put_byte_number(out, at, number)
-}
+    // What joins the parts of an answer.
+    pub fn bar(&mut self)
+        ensures { Lays self.old (codes " | ") self.new }
+    {
+        self.text(" | ");
+    }
 
-// A refusal inside an answer.
-pub fn put_refusal(out: &mut Out, to: usize, number: u8) -> usize {
-    let at = put_text(out, to, b"refused-");
-    put_byte_number(out, at, number)
-}
+    #[tactic(auto, using(crate::proofs::OutLaws::two))]
+    pub fn refused(&mut self, refusal: Refusal)
+        ensures { Laid self.old (refused_pieces refusal) self.new }
+    {
+        self.text("refused ");
+        self.byte(refusal.number());
+    }
 
-pub fn put_ok_or_refused(out: &mut Out, to: usize, answer: Answer) -> usize {
-    match answer {
-        Answer::Done => put_text(out, to, b"ok"),
-        Answer::Refused(refusal) => put_refused(out, to, refusal.number()),
+    // A refusal inside an answer.
+    #[tactic(auto, using(crate::proofs::OutLaws::two))]
+    pub fn refusal(&mut self, refusal: Refusal)
+        ensures { Laid self.old (codes "refused-" ∷ decimal_of (number_of refusal) ∷ []) self.new }
+    {
+        self.text("refused-");
+        self.byte(refusal.number());
+    }
+
+    #[tactic(auto, using(crate::proofs::OutLaws::one))]
+    pub fn ok_or_refused(&mut self, answer: Result<(), Refusal>)
+        ensures { Laid self.old (ok_or_refused_pieces answer) self.new }
+    {
+        match answer {
+            Ok(()) => self.text("ok"),
+            Err(refusal) => self.refused(refusal),
+        }
+    }
+
+    // The numbers of a list, with commas between them; `-` where it is empty.
+    #[tactic(auto, using(crate::proofs::OutLaws::whole_list))]
+    pub fn list<I: Iterator<Item = usize> + Drop>(&mut self, numbers: I)
+        requires { I.can_next numbers × IsFinite (I.remaining numbers) }
+        ensures { (xs : List ℕ) × Drains I.next_gives numbers xs × Laid self.old (list_pieces xs) self.new }
+    {
+        let mut is_first = true;
+        for item in numbers {
+            if !is_first {
+                self.text(",");
+            }
+            self.number(item);
+            is_first = false;
+        }
+        if is_first {
+            self.text("-");
+        }
+    }
+
+    // A call writes its telegram and nothing else: where its buffer, which was lent full of AA, says otherwise behind so many bytes, `!`
+    // and the buffer.
+    #[tactic(auto, using(crate::proofs::OutLaws::two, crate::proofs::OutLaws::untouched), unfolding(crate::specs::Out::touched_pieces))]
+    pub fn touched(&mut self, buffer: &[u8], len: usize)
+        ensures { Laid self.old (touched_pieces buffer.now len) self.new }
+    {
+        if is_touched(buffer, len) {
+            self.text(" !");
+            self.hex(buffer);
+        }
     }
 }
 
-// Where the name of a number starts in a list of names of which each ends with a mark.
-fn name_start(names: &[u8], number: usize, mark: u8) -> usize
-    ensures { result ≤ length names.now }
+// Whether a byte behind so many is not AA.
+fn is_touched(buffer: &[u8], len: usize) -> bool
+    ensures { result ≡ list_any is_written (drop len buffer.now) }
 {
-    let mut start = 0;
-    let mut passed = 0;
-    while passed < number {
-        let end = find(names, start, mark);
-        if end == names.len() {
-            return end;
-        }
-        start = end + 1;
-        passed += 1;
-    }
-    start
-}
-
-fn put_marked_name(out: &mut Out, to: usize, names: &[u8], number: usize, mark: u8) -> usize {
-    let start = name_start(names, number, mark);
-    let end = find(names, start, mark);
-    put_text(out, to, &names[start..end])
-}
-
-// The name of a number in a list of words of which each ends with a space.
-pub fn put_name(out: &mut Out, to: usize, names: &[u8], number: usize) -> usize {
-    put_marked_name(out, to, names, number, b' ')
-}
-
-// A number of a list that starts at `start`, where it is in it; the first one stands without a comma.
-pub fn put_listed(out: &mut Out, to: usize, start: usize, n: usize, is_in: bool) -> usize {
-    if !is_in {
-        return to;
-    }
-    if to == start {
-        return put_number(out, to, n);
-    }
-    let at = put_char(out, to, b',');
-    put_number(out, at, n)
-}
-
-// A list that starts at `start`; `-` where it is empty.
-pub fn put_list_end(out: &mut Out, to: usize, start: usize) -> usize {
-    if to == start {
-        return put_char(out, to, b'-');
-    }
-    to
-}
-
-// A byte string; `-` where it is empty.
-pub fn put_hex(out: &mut Out, to: usize, bytes: &[u8]) -> usize {
-    if bytes.len() == 0 {
-        return put_char(out, to, b'-');
-    }
-    text::put_hex(out, to, bytes)
-}
-
-pub fn put_next_hex(out: &mut Out, to: usize, bytes: &[u8]) -> usize {
-    let at = put_char(out, to, b' ');
-    put_hex(out, at, bytes)
-}
-
-// Whether the buffer holds AA from a place on, as it was lent.
-fn is_untouched(buffer: &[u8], from: usize) -> bool {
-    let mut at = from;
-    while at < buffer.len() {
-        if buffer[at] != 0xAA {
-            return false;
-        }
-        at += 1;
-    }
-    true
-}
-
-// A call writes its telegram and nothing else: where its buffer says otherwise behind so many bytes, `!` and the buffer.
-pub fn put_touched(out: &mut Out, to: usize, buffer: &[u8], len: usize) -> usize {
-    if is_untouched(buffer, len) {
-        return to;
-    }
-    let at = put_text(out, to, b" !");
-    put_hex(out, at, buffer)
+    buffer.iter().skip(len).any(|b| *b != 0xAA)
 }

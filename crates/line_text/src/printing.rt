@@ -2,8 +2,8 @@
 ghost use Rattle.std.specs.Prelude.{◌≤◌, length};
 
 use std::cell::Cell;
-use std::io;
 use std::io::{Print, Read, Stderr, Stdin, Stdout};
+use std::{fmt, io};
 
 // The streams of a program. A read that fails is kept for `end`, and so is a write to standard output that fails, behind which nothing more is
 // written. They are kept in cells, so that a call which prints is promised to give what it would give if it did not, whether or not it could
@@ -76,6 +76,7 @@ fn read_more(streams: &Streams, buf: &mut [u8]) -> usize
 pub fn read_full(streams: &Streams, buf: &mut [u8]) -> usize
     ensures { result ≤ length buf.new }
 {
+    // How much a read gives is known only behind it, so this is no `for`.
     let mut len = 0;
     while len < buf.len() {
         let n = read_more(streams, &mut buf[len..]);
@@ -97,6 +98,6 @@ pub fn print_error(streams: &Streams, text: &[u8]) {
     let _ = streams.stderr.write_all(text);
 }
 
-pub fn print_error_decimal(streams: &Streams, n: usize) {
-    let _ = streams.stderr.print(n);
+pub fn print_error_value<D: fmt::Display + Drop>(streams: &Streams, value: D) {
+    let _ = streams.stderr.print(value);
 }

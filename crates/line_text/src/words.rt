@@ -1,210 +1,164 @@
-// The words of a line. A place is where a word ended: at the space before the next one, or at the line's end, a line feed or a carriage
-// return before it. A word that cannot be read ends at one of the places beyond the input, which says why, and so does each word behind it:
-// a command reads all its words and asks once, at the last one, whether the line ends there. The input is lent as a whole array and not as
-// a slice, since a lent array asks no proof of its length.
-use crate::bytes::find;
-use text::Number;
+// The words of a line. A word begins behind a space and ends at the next one, or where the line ends. A command reads its words one after the
+// other and stops at the first that cannot be read.
+ghost use Rattle.std.specs.Prelude.{◌≡◌, ◌≤◌, ◌<◌, length, eqb, OnOk};
+ghost use Rattle.std.specs.Result.{result_map_both};
+ghost use Rattle.line_text.specs.Words.{word_len, word_in, behind_word, word_read, word_left, end_read, and_then, ended, number_split, byte_split, number_read, byte_read};
 
-// The longest input, with the line feed that always ends it.
-pub type Input = [u8; 1048577];
+use std::fmt;
 
-pub const INPUT: usize = 1048576;
+// Why a line is no command.
+#[derive(Clone, Copy, Debug, PartialEq, Eq)]
+pub enum Fault {
+    TooManyWords,
+    WordMissing,
+    BadNumber,
+    Above255,
+    BadBytes,
+    BytesTooLong,
+    RoomTooLarge,
+    BadFrameCountBit,
+    BadOp,
+    UnknownCommand,
+    NotMade,
+    LineTooLong,
+}
 
-// From here on, beyond the input's end, nothing can be read. A place there is the reason why a line is no command; `answers::put_reason`
-// has its words, in this order.
-pub const NOWHERE: usize = 1048577;
-
-pub const NO_WORD: usize = NOWHERE;
-
-pub const BAD_NUMBER: usize = NOWHERE + 1;
-
-pub const ABOVE_255: usize = NOWHERE + 2;
-
-pub const BAD_BYTES: usize = NOWHERE + 3;
-
-pub const BYTES_TOO_LONG: usize = NOWHERE + 4;
-
-pub const ROOM_TOO_LARGE: usize = NOWHERE + 5;
-
-pub const BAD_FRAME_COUNT_BIT: usize = NOWHERE + 6;
-
-pub const BAD_OP: usize = NOWHERE + 7;
-
-pub const UNKNOWN_COMMAND: usize = NOWHERE + 8;
-
-pub const NOT_MADE: usize = NOWHERE + 9;
-
-pub const LINE_TOO_LONG: usize = NOWHERE + 10;
+impl fmt::Display for Fault {
+    fn fmt<W: fmt::Write>(&self, f: &mut fmt::Formatter<W>) -> fmt::Result {
+        f.write_str(match self {
+            Fault::TooManyWords => "too many words",
+            Fault::WordMissing => "word missing",
+            Fault::BadNumber => "bad number",
+            Fault::Above255 => "number above 255",
+            Fault::BadBytes => "bad byte string",
+            Fault::BytesTooLong => "byte string too long",
+            Fault::RoomTooLarge => "room too large",
+            Fault::BadFrameCountBit => "bad frame count bit",
+            Fault::BadOp => "bad op",
+            Fault::UnknownCommand => "unknown command",
+            Fault::NotMade => "end not made yet",
+            Fault::LineTooLong => "line too long",
+        })
+    }
+}
 
 // The largest number that is read; each place of a command then asks for less.
 const LARGEST: u32 = 4294967295;
 
-// A number, or the length of a byte string, with the place behind it.
+// What is left of a line behind the word that was read last.
 #[derive(Clone, Copy)]
-pub struct Word {
-    pub value: usize,
-    pub next: usize,
+pub struct Words<'a> {
+    rest: &'a [u8],
 }
 
-// A byte in decimal, with the place behind it.
-#[derive(Clone, Copy)]
-pub struct ByteWord {
-    pub value: u8,
-    pub next: usize,
-}
-
-// A word of a list of names: its number there, and the place behind it.
-#[derive(Clone, Copy)]
-pub struct Named {
-    pub number: usize,
-    pub next: usize,
-}
-
-pub fn is_end(input: &Input, at: usize) -> bool {
-    if text::byte_is_at(input, at, b'\n') {
-        return true;
+impl<'a> Words<'a> {
+    // The words of a line without its line feed.
+    pub fn new(line: &'a [u8]) -> Words<'a>
+        ensures { result.rest.now ≡ line.now }
+    {
+        Words { rest: line }
     }
-    text::begins_at(input, at, b"\r\n")
-}
 
-pub(crate) fn ends_word(input: &Input, at: usize) -> bool {
-    if text::byte_is_at(input, at, b' ') {
-        return true;
+    pub fn is_end(&self) -> bool
+        ensures { result ≡ eqb (length self.now.rest.now) 0 }
+    {
+        self.rest.is_empty()
     }
-    is_end(input, at)
-}
 
-// Whether the word at a place is this one.
-fn is_word(input: &Input, at: usize, word: &[u8]) -> bool {
-    if INPUT < at {
-        return false;
-    }
-    if INPUT < word.len() {
-        return false;
-    }
-    if text::begins_at(input, at, word) {
-        ends_word(input, at + word.len())
-    } else {
-        false
-    }
-}
-
-// The word at a place among names of which each ends with a space. Where it is none of them its number is the number of names.
-pub fn number_of(input: &Input, at: usize, names: &[u8]) -> Named {
-    let mut number = 0;
-    let mut start = 0;
-    while start < names.len() {
-        let end = find(names, start, b' ');
-        if is_word(input, at, &names[start..end]) {
-            return named_at(number, at, end - start);
+    // Behind the last word of a command the line ends.
+    pub fn end(&self) -> Result<(), Fault>
+        ensures { result ≡ end_read self.now.rest.now }
+    {
+        if self.is_end() {
+            Ok(())
+        } else {
+            Err(Fault::TooManyWords)
         }
-        if end == names.len() {
-            return Named {
-                number: number + 1,
-                next: at,
-            };
-        }
-        start = end + 1;
-        number += 1;
     }
-    Named { number, next: at }
-}
 
-fn named_at(number: usize, at: usize, len: usize) -> Named {
-    if INPUT < at {
-        return Named { number, next: at };
+    // The line's first word.
+    pub fn name(&mut self) -> &'a [u8]
+        ensures word { result.now ≡ word_in self.old.rest.now }
+        ensures left { self.new.rest.now ≡ behind_word self.old.rest.now }
+    {
+        let line = self.rest;
+        let len = word_len(line);
+        self.rest = &line[len..];
+        &line[..len]
     }
-    if INPUT < len {
-        return Named { number, next: at };
-    }
-    Named {
-        number,
-        next: at + len,
-    }
-}
 
-// The place behind a mark of one byte.
-pub fn behind(input: &Input, at: usize, mark: u8) -> usize {
-    if INPUT < at {
-        return at;
-    }
-    if input[at] == mark {
-        return at + 1;
-    }
-    NO_WORD
-}
-
-// A place, if a word ends there.
-pub fn ended(input: &Input, at: usize, why: usize) -> usize {
-    if INPUT < at {
-        return at;
-    }
-    if ends_word(input, at) {
-        return at;
-    }
-    why
-}
-
-// No word, and why.
-pub(crate) fn no_word(why: usize) -> Word {
-    Word {
-        value: 0,
-        next: why,
-    }
-}
-
-// The number behind a mark.
-fn number_behind(input: &Input, at: usize, mark: u8) -> Word {
-    let digits = behind(input, at, mark);
-    if INPUT < digits {
-        return no_word(digits);
-    }
-    let Number::Is { value, next } = text::get_decimal(input, digits, LARGEST) else {
-        return no_word(BAD_NUMBER);
-    };
-    Word { value, next }
-}
-
-// The byte behind a mark.
-pub fn byte_behind(input: &Input, at: usize, mark: u8) -> ByteWord {
-    let word = number_behind(input, at, mark);
-    let value = word.value;
-    if 255 < value {
-        return ByteWord {
-            value: 0,
-            next: ABOVE_255,
+    // Less is left of the line behind it: so a loop over words ends.
+    pub fn word(&mut self) -> Result<&'a [u8], Fault>
+        ensures word { result_map_both (λ w. w.now) (λ e. e) result ≡ word_read self.old.rest.now }
+        ensures left { self.new.rest.now ≡ word_left self.old.rest.now }
+        ensures less { OnOk result (length self.new.rest.now < length self.old.rest.now) }
+    {
+        let [b' ', rest @ ..] = self.rest else {
+            return Err(Fault::WordMissing);
         };
+        self.rest = rest;
+        Ok(self.name())
     }
-    ByteWord {
-        value: value as u8,
-        next: word.next,
+
+    pub fn number(&mut self) -> Result<usize, Fault>
+        ensures number { result ≡ and_then (word_read self.old.rest.now) number_read }
+        ensures left { self.new.rest.now ≡ word_left self.old.rest.now }
+    {
+        let (number, rest) = split_number(self.word()?)?;
+        ended(rest)?;
+        Ok(number)
     }
-}
 
-// The byte behind a mark, where it ends its word.
-pub fn byte_word(input: &Input, at: usize, mark: u8) -> ByteWord {
-    let byte = byte_behind(input, at, mark);
-    ByteWord {
-        value: byte.value,
-        next: ended(input, byte.next, BAD_NUMBER),
-    }
-}
-
-pub fn get_byte(input: &Input, at: usize) -> ByteWord {
-    byte_word(input, at, b' ')
-}
-
-pub fn get_number(input: &Input, at: usize) -> Word {
-    let word = number_behind(input, at, b' ');
-    Word {
-        value: word.value,
-        next: ended(input, word.next, BAD_NUMBER),
+    pub fn byte(&mut self) -> Result<u8, Fault>
+        ensures byte { result ≡ and_then (word_read self.old.rest.now) byte_read }
+        ensures left { self.new.rest.now ≡ word_left self.old.rest.now }
+    {
+        whole_byte(self.word()?)
     }
 }
 
-// The place behind the word `-`.
-pub fn behind_dash(input: &Input, at: usize) -> usize {
-    let dash = behind(input, at, b' ');
-    let end = behind(input, dash, b'-');
-    ended(input, end, BAD_BYTES)
+// How many bytes stand before the first space, or in the line where it has none.
+fn word_len(line: &[u8]) -> usize
+    ensures len { result ≡ word_len line.now }
+    ensures within { result ≤ length line.now }
+{
+    line.iter().position(|b| *b == b' ').unwrap_or(line.len())
+}
+
+// A number at the front of these bytes, and the bytes behind it.
+#[tactic(auto, using(crate::proofs::WordsLaws::number_within, crate::proofs::WordsLaws::number_rest))]
+pub(crate) fn split_number(bytes: &[u8]) -> Result<(usize, &[u8]), Fault>
+    ensures { result_map_both (λ n. (n.0, n.1.now)) (λ e. e) result ≡ number_split bytes.now }
+{
+    let number = text::get_decimal(bytes, 0, LARGEST).ok_or(Fault::BadNumber)?;
+    Ok((number.value, &bytes[number.next..]))
+}
+
+// A byte in decimal at the front of these bytes, and the bytes behind it.
+pub fn split_byte(bytes: &[u8]) -> Result<(u8, &[u8]), Fault>
+    ensures { result_map_both (λ n. (n.0, n.1.now)) (λ e. e) result ≡ byte_split bytes.now }
+{
+    let (number, rest) = split_number(bytes)?;
+    let byte = u8::try_from(number).map_err(|_| Fault::Above255)?;
+    Ok((byte, rest))
+}
+
+// Nothing stands behind a number in its word.
+pub(crate) fn ended(rest: &[u8]) -> Result<(), Fault>
+    ensures { result ≡ ended rest.now }
+{
+    if rest.is_empty() {
+        Ok(())
+    } else {
+        Err(Fault::BadNumber)
+    }
+}
+
+// The byte that the whole of these bytes says.
+pub fn whole_byte(bytes: &[u8]) -> Result<u8, Fault>
+    ensures { result ≡ byte_read bytes.now }
+{
+    let (byte, rest) = split_byte(bytes)?;
+    ended(rest)?;
+    Ok(byte)
 }

@@ -6,6 +6,7 @@ use crate::bits::by_bit;
 use initiator::Phase;
 use link_telegrams::Bit;
 
+// (No `From`: the number is of the bytes of a record alone.)
 pub fn phase_number(phase: Phase) -> u8
     ensures { result ≡ phase_number phase }
 {
@@ -17,6 +18,8 @@ pub fn phase_number(phase: Phase) -> u8
     }
 }
 
+// Any number is answered, and two numbers make the phase: no `From`.
+#[tactic(auto, unfolding(crate::specs::Numbers::phase_of))]
 pub fn phase_of(number: u8, used: u8) -> Phase
     ensures { result ≡ phase_of number used }
 {

@@ -6,6 +6,7 @@ use crate::bits::by_bit;
 use link_telegrams::Bit;
 use responder_row::RowState;
 
+// (No `From`: the number is of the bytes of a record alone.)
 pub fn state_number(state: RowState) -> u8
     ensures { result ≡ state_number state }
 {
@@ -17,6 +18,8 @@ pub fn state_number(state: RowState) -> u8
     }
 }
 
+// Any number is answered, the record being lent bytes (the C interface): no `TryFrom`.
+#[tactic(auto, unfolding(crate::specs::Numbers::state_of))]
 pub fn state_of(number: u8) -> RowState
     ensures { result ≡ state_of number }
 {

@@ -21,35 +21,25 @@ pub const MOST_TRIES: u8 = 8;
 pub const DEFAULT_TRIES: u8 = 4;
 
 // Whether refusal 18 is due.
+#[tactic(auto, unfolding(crate::specs::Rules::wrong_addresses))]
 pub fn wrong_addresses(link: Link) -> bool
     ensures { result ≡ wrong_addresses link }
 {
-    if 125 < link.own.0 {
-        return true;
-    }
-    if 125 < link.peer.0 {
-        return true;
-    }
-    link.own.0 == link.peer.0
+    125 < link.own.0 || 125 < link.peer.0 || link.own == link.peer
 }
 
 // Whether refusal 19 is due.
-#[tactic(auto, using(crate::proofs::RuleLaws::no_try, crate::proofs::RuleLaws::some_tries))]
+#[tactic(auto, unfolding(crate::specs::Rules::wrong_tries))]
 pub fn wrong_tries(tries: u8) -> bool
     ensures { result ≡ wrong_tries tries }
 {
-    if tries < 1 {
-        return true;
-    }
-    MOST_TRIES < tries
+    tries < 1 || MOST_TRIES < tries
 }
 
 // Whether an order of so many bytes is none: refusal 16 at the initiator, and not handed up at the responder.
+#[tactic(auto, unfolding(crate::specs::Rules::wrong_length))]
 pub fn wrong_length(len: usize) -> bool
     ensures { result ≡ wrong_length len }
 {
-    if len == 0 {
-        return true;
-    }
-    LONGEST < len
+    len == 0 || LONGEST < len
 }

@@ -1,8 +1,9 @@
 -- What a telegram to an end is, by its sender, its code's byte and its PDU: a law for each way through the code that looks at them. A
 -- wrong test in the code then fails at the fact that its law asks for.
+use Rattle.std.proofs.Common.{None, Option, Some}
 use Prim.Native.Nat.{ℕ, ◌+◌, ◌*◌, ◌/◌, ◌%◌, ◌<◌, ◌≤◌}
 use mathlib.Core.Bool.{Bool, true, false}
-use mathlib.Core.Path.{◌≡◌, refl, ap}
+use mathlib.Core.Path.{◌≡◌, refl}
 use native.Mathlib.Omega.{arith}
 use lib.Dec.{eqb}
 use borrow.Author.Tests.{eq-eqb, ne_eqb, le-leb, lt-leb, eqb-true, eqb-false}
@@ -15,28 +16,23 @@ use Rattle.codes.specs.declared.frame_count_bit.FrameCountBit.{FrameCountBit}
 use Rattle.codes.specs.declared.frame_count_bit.FrameCountBit.TheVariants as fcb
 use Rattle.codes.specs.declared.function_code.FunctionCode.{FunctionCode}
 use Rattle.codes.specs.declared.function_code.FunctionCode.TheVariants.{Request, Response}
-use Rattle.codes.specs.declared.function_code.FunctionCodeFound.{FunctionCodeFound}
-use Rattle.codes.specs.declared.function_code.FunctionCodeFound.TheVariants as codeFound
 use Rattle.codes.specs.declared.request_type.RequestType.{RequestType}
 use Rattle.codes.specs.declared.request_type.RequestType.TheVariants.{SrdLow}
 use Rattle.codes.specs.declared.response.ResponseState.{ResponseState}
 use Rattle.codes.specs.declared.response.ResponseState.TheVariants.{Slave}
 use Rattle.codes.specs.declared.response.ResponseStatus.{ResponseStatus}
 use Rattle.codes.specs.declared.response.ResponseStatus.TheVariants as status
-use Rattle.ground.proofs.Injective.{zero_one}
 use Rattle.ground.proofs.PickLaws.{picked}
 use Rattle.ground.specs.declared.address.Address.{Address}
 use Rattle.ground.specs.declared.part.Part.{Part}
 use Rattle.link_rules.specs.Rules.{longest}
-use Rattle.link_telegrams.specs.Heard.{data_from, srd_of, request_in, request_from, slave_of, reply_from}
+use Rattle.link_telegrams.specs.Heard.{data_from, request_in, request_from, slave_of, reply_from}
 use Rattle.link_telegrams.specs.Leaves.{decoded_as, asked_of, is_request}
 use Rattle.link_telegrams.specs.declared.headers.Bit.TheVariants as bit
 use Rattle.link_telegrams.specs.declared.heard.ReplyHeard.{ReplyHeard}
 use Rattle.link_telegrams.specs.declared.heard.ReplyHeard.TheVariants as reply_heard
 use Rattle.link_telegrams.specs.declared.heard.RequestHeard.{RequestHeard}
 use Rattle.link_telegrams.specs.declared.heard.RequestHeard.TheVariants as request_heard
-use Rattle.link_telegrams.specs.declared.heard.RequestTo.{RequestTo}
-use Rattle.link_telegrams.specs.declared.heard.RequestTo.TheVariants as request_to
 
 -- ---- a request to the station, by its code's byte
 
@@ -47,109 +43,90 @@ unfolding code_byte
 request_byte as_written = refl
 
 module _ (sa : Address) (pdu : Part) (code : ℕ) where
-  abbrev asked : RequestTo
-  asked = request_in (decoded_as sa pdu (function_code_of code))
+  abbrev request : Option (Address × RequestHeard)
+  request = request_in (decoded_as sa pdu (function_code_of code))
 
-  module _ (first : code ≡ 0x6C) where
-    pub first_empty : pdu.len ≡ 0 → asked ≡ request_to.From sa request_heard.Opening
-    unfolding function_code_of request_type_of
-    first_empty e = rw (first, eq-eqb _ _ e)
-
-    pub first_with_bytes : (pdu.len ≡ 0 → ⊥) → asked ≡ request_to.From sa request_heard.Nothing
-    unfolding function_code_of request_type_of
-    first_with_bytes e = rw (first, ne_eqb _ _ e)
-
-  pub high : code ≡ 0x7C → asked ≡ request_to.From sa (request_heard.Order bit.High pdu)
+  pub first_empty : code ≡ 0x6C → pdu.len ≡ 0 → asked_of request ≡ request_heard.Opening
   unfolding function_code_of request_type_of
-  high e = rw e
+  first_empty e l = rw (e, eq-eqb _ _ l)
 
-  pub low : code ≡ 0x5C → asked ≡ request_to.From sa (request_heard.Order bit.Low pdu)
+  pub first_with_bytes : code ≡ 0x6C → (pdu.len ≡ 0 → ⊥) → asked_of request ≡ request_heard.Nothing
   unfolding function_code_of request_type_of
-  low e = rw e
+  first_with_bytes e l = rw (e, ne_eqb _ _ l)
 
-  pub inactive : code ≡ 0x4C → asked ≡ request_to.From sa request_heard.Nothing
+  pub high_asks : code ≡ 0x7C → asked_of request ≡ request_heard.Order bit.High pdu
   unfolding function_code_of request_type_of
-  inactive e = rw e
+  high_asks e = rw e
+
+  pub low_asks : code ≡ 0x5C → asked_of request ≡ request_heard.Order bit.Low pdu
+  unfolding function_code_of request_type_of
+  low_asks e = rw e
+
+  inactive_asks : code ≡ 0x4C → asked_of request ≡ request_heard.Nothing
+  unfolding function_code_of request_type_of
+  inactive_asks e = rw e
+
+  -- these four bytes are of SRD low
+  pub first_is : code ≡ 0x6C → is_request request ≡ true
+  unfolding function_code_of request_type_of
+  first_is e = rw e
+
+  pub high_is : code ≡ 0x7C → is_request request ≡ true
+  unfolding function_code_of request_type_of
+  high_is e = rw e
+
+  pub low_is : code ≡ 0x5C → is_request request ≡ true
+  unfolding function_code_of request_type_of
+  low_is e = rw e
+
+  pub inactive_is : code ≡ 0x4C → is_request request ≡ true
+  unfolding function_code_of request_type_of
+  inactive_is e = rw e
 
   -- Every other byte is that of another code, or of none.
   module _
-      (byte : code < 256) (not_first : code ≡ 0x6C → ⊥) (not-high : code ≡ 0x7C → ⊥)
-      (not_low : code ≡ 0x5C → ⊥) (not-inactive : code ≡ 0x4C → ⊥)
+      (byte : code < 256) (not_first : code ≡ 0x6C → ⊥) (not_high : code ≡ 0x7C → ⊥)
+      (not_low : code ≡ 0x5C → ⊥)
     where
-      not_srd_low : (f : FrameCountBit) → code ≡ 64 + frame_count_part f + 0xC → ⊥
-      not_srd_low fcb.First e = not_first e
-      not_srd_low fcb.High e = not-high e
-      not_srd_low fcb.Low e = not_low e
-      not_srd_low fcb.Inactive e = not-inactive e
+      module _ (not_inactive : code ≡ 0x4C → ⊥) where
+        not_srd_low : (f : FrameCountBit) → code ≡ 64 + frame_count_part f + 0xC → ⊥
+        not_srd_low fcb.First e = not_first e
+        not_srd_low fcb.High e = not_high e
+        not_srd_low fcb.Low e = not_low e
+        not_srd_low fcb.Inactive e = not_inactive e
 
-      by_code : (x : FunctionCodeFound) → function_code_of code ≡ x → request_in (decoded_as sa pdu x) ≡ request_to.Nothing
-      by_code (codeFound.Is (Request f req)) e =
-          rw
-          (ne_eqb (request_number req) (request_number SrdLow)
-          (λ n. not_srd_low f (rw n at (request_byte (read_code code byte (Request f req) e)))))
-      by_code (codeFound.Is (Response state s)) e = refl
-      by_code codeFound.Nothing e = refl
+        by_code : (x : Option FunctionCode) → function_code_of code ≡ x → request_in (decoded_as sa pdu x) ≡ None
+        by_code (Some (Request f req)) e =
+            rw
+            (ne_eqb (request_number req) (request_number SrdLow)
+            (λ n. not_srd_low f (rw n at (request_byte (read_code code byte (Request f req) e)))))
+        by_code (Some (Response state s)) e = refl
+        by_code None e = refl
 
-      pub another_code : asked ≡ request_to.Nothing
-      another_code = by_code (function_code_of code) refl
+        pub another_is : is_request request ≡ false
+        another_is = rw (by_code (function_code_of code) refl)
 
-  pub first_asks : code ≡ 0x6C → is_request asked ≡ true
-  unfolding function_code_of request_type_of
-  first_asks e = rw e
+        another_asks : asked_of request ≡ request_heard.Nothing
+        another_asks = rw (by_code (function_code_of code) refl)
 
-  -- A byte that is neither an opening's nor an order's asks nothing, be it one of SRD low or not.
-  pub nothing_asked :
-      code < 256 → (code ≡ 0x6C → ⊥) → (code ≡ 0x7C → ⊥) → (code ≡ 0x5C → ⊥)
-      → asked_of asked ≡ request_heard.Nothing
-  nothing_asked byte not_first not-high not_low = by_inactive (eqb code 0x4C) refl
-    where
-      by_inactive : (t : Bool) → eqb code 0x4C ≡ t → asked_of asked ≡ request_heard.Nothing
-      by_inactive true e = ap asked_of (inactive (eqb-true _ _ e))
-      by_inactive false e = ap asked_of (another_code byte not_first not-high not_low (eqb-false _ _ e))
+      -- A byte that is neither an opening's nor an order's asks nothing, be it one of SRD low or not.
+      pub nothing_asked : asked_of request ≡ request_heard.Nothing
+      nothing_asked = by_inactive (eqb code 0x4C) refl
+        where
+          by_inactive : (t : Bool) → eqb code 0x4C ≡ t → asked_of request ≡ request_heard.Nothing
+          by_inactive true e = inactive_asks (eqb-true _ _ e)
+          by_inactive false e = another_asks (eqb-false _ _ e)
 
-pub none_asked : (y : RequestTo) → is_request y ≡ false → y ≡ request_to.Nothing
-none_asked (request_to.From sa request) e = absurd (zero_one cc)
-none_asked request_to.Nothing e = refl
+-- What the code's byte of a request says, case by case: what it asks, and whether it is one of SRD low.
+pub ruleset asked_cases = (first_empty, first_with_bytes, high_asks, low_asks, nothing_asked)
 
--- The peer's request, and another station's.
-module _ (peer sa : Address) (request : RequestHeard) where
-  pub peer_asked : sa.0 ≡ peer.0 → request_from peer (request_to.From sa request) ≡ request
-  peer_asked e = rw (eq-eqb _ _ e)
+pub ruleset request_cases = (first_is, high_is, low_is, inactive_is, another_is)
 
-  pub another_asked : (sa.0 ≡ peer.0 → ⊥) → request_from peer (request_to.From sa request) ≡ request_heard.Nothing
-  another_asked e = rw (ne_eqb _ _ e)
-
--- The request in a telegram has the telegram's sender.
-module _ (sa : Address) (pdu : Part) where
-  abbrev Sent : RequestTo → Type 0
-  Sent y = is_request y ≡ true → y ≡ request_to.From sa (asked_of y)
-
-  pub sender_asked : (x : FunctionCodeFound) → Sent (request_in (decoded_as sa pdu x))
-  sender_asked (codeFound.Is (Request f req)) e =
-      picked Sent (eqb (request_number req) (request_number SrdLow)) (λ t q. refl) (λ t q. absurd (zero_one cc)) e
-  sender_asked (codeFound.Is (Response state s)) e = absurd (zero_one cc)
-  sender_asked codeFound.Nothing e = absurd (zero_one cc)
-
-  module _ (peer : Address) where
-    pub sent_by_peer :
-        sa.0 ≡ peer.0 → (x : FunctionCodeFound)
-        → request_from peer (request_in (decoded_as sa pdu x)) ≡ asked_of (request_in (decoded_as sa pdu x))
-    sent_by_peer e (codeFound.Is (Request f req)) =
-        picked (λ y. request_from peer y ≡ asked_of y) (eqb (request_number req) (request_number SrdLow))
-        (λ t. peer_asked peer sa (srd_of f pdu) e)
-        (λ t. refl)
-    sent_by_peer e (codeFound.Is (Response state s)) = refl
-    sent_by_peer e codeFound.Nothing = refl
-
-    pub sent_by_another :
-        (sa.0 ≡ peer.0 → ⊥) → (x : FunctionCodeFound)
-        → request_from peer (request_in (decoded_as sa pdu x)) ≡ request_heard.Nothing
-    sent_by_another d (codeFound.Is (Request f req)) =
-        picked (λ y. request_from peer y ≡ request_heard.Nothing) (eqb (request_number req) (request_number SrdLow))
-        (λ t. another_asked peer sa (srd_of f pdu) d)
-        (λ t. refl)
-    sent_by_another d (codeFound.Is (Response state s)) = refl
-    sent_by_another d codeFound.Nothing = refl
+-- Another station's request asks nothing.
+pub another_asked :
+    (peer sa : Address) (request : RequestHeard) → (sa.0 ≡ peer.0 → ⊥)
+    → request_from peer (Some (sa, request)) ≡ request_heard.Nothing
+another_asked peer sa request e = rw (ne_eqb _ _ e)
 
 -- ---- a response to the station, by its code's byte
 
@@ -169,7 +146,7 @@ response_byte {state} {s} bit7_set = omega (arith, state_number_small state, sta
 
 -- Bit 7 is ignored, so the bytes of a slave's response are known by what is below it.
 module _ (code : ℕ) where
-  ok_code : code % 128 ≡ 0x00 → function_code_of code ≡ codeFound.Is (Response Slave status.Ok)
+  ok_code : code % 128 ≡ 0x00 → function_code_of code ≡ Some (Response Slave status.Ok)
   unfolding function_code_of state_of status_of
   ok_code e =
       let six : code / 64 % 2 ≡ 0 = omega arith in
@@ -177,7 +154,7 @@ module _ (code : ℕ) where
       let low : code % 16 ≡ 0 = omega arith in
       rw (six, state, low)
 
-  data_low_code : code % 128 ≡ 0x08 → function_code_of code ≡ codeFound.Is (Response Slave status.DataLow)
+  data_low_code : code % 128 ≡ 0x08 → function_code_of code ≡ Some (Response Slave status.DataLow)
   unfolding function_code_of state_of status_of
   data_low_code e =
       let six : code / 64 % 2 ≡ 0 = omega arith in
@@ -192,9 +169,9 @@ module _ (peer sa : Address) (pdu : Part) (code : ℕ) where
   pub another_answered : (sa.0 ≡ peer.0 → ⊥) → answered ≡ reply_heard.Nothing
   another_answered d = by_code (function_code_of code)
     where
-      by_code : (x : FunctionCodeFound) → reply_from peer (decoded_as sa pdu x) ≡ reply_heard.Nothing
-      by_code (codeFound.Is fc) = not_the_peer peer sa fc pdu d
-      by_code codeFound.Nothing = refl
+      by_code : (x : Option FunctionCode) → reply_from peer (decoded_as sa pdu x) ≡ reply_heard.Nothing
+      by_code (Some fc) = not_the_peer peer sa fc pdu d
+      by_code None = refl
 
   module _ (from-peer : sa.0 ≡ peer.0) where
     pub ok_empty : code % 128 ≡ 0x00 → pdu.len ≡ 0 → answered ≡ reply_heard.Ok
@@ -224,15 +201,18 @@ module _ (peer sa : Address) (pdu : Part) (code : ℕ) where
           ne_eqb (status_number s) 8 (λ o. not-data (omega (arith, e, slave, o))),
         )
 
-    no_reply : (x : FunctionCodeFound) → function_code_of code ≡ x → reply_from peer (decoded_as sa pdu x) ≡ reply_heard.Nothing
-    no_reply (codeFound.Is (Request f req)) e = refl
-    no_reply (codeFound.Is (Response state s)) e =
+    no_reply : (x : Option FunctionCode) → function_code_of code ≡ x → reply_from peer (decoded_as sa pdu x) ≡ reply_heard.Nothing
+    no_reply (Some (Request f req)) e = refl
+    no_reply (Some (Response state s)) e =
         picked NoReply (eqb sa.0 peer.0)
         (λ p. picked NoReply (eqb (state_number state) (state_number Slave))
         (λ q. no_slave state s (response_byte (read_code code byte (Response state s) e)) (eqb-true _ _ q))
         (λ q. refl))
         (λ p. refl)
-    no_reply codeFound.Nothing e = refl
+    no_reply None e = refl
 
     pub another_status : answered ≡ reply_heard.Nothing
     another_status = no_reply (function_code_of code) refl
+
+-- What a response says, case by case.
+pub ruleset reply_cases = (another_answered, ok_empty, ok_with_bytes, data_short, data_long, another_status)

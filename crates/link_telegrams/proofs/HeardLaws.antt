@@ -1,14 +1,14 @@
 -- An order that is heard is a part of the heard bytes: its telegram fills them, and a telegram's PDU lies within it.
 -- Read `request_to_within`, `request_within`.
+use Rattle.std.proofs.Common.{None, Option, Some}
 use Prim.Native.Nat.{ℕ, ◌+◌, ◌≤◌}
-use mathlib.Core.Bool.{Bool, true, false}
 use mathlib.Core.List.{List}
 use mathlib.Core.Path.{◌≡◌, refl}
 use native.Mathlib.Omega.{arith}
 use lib.Dec.{eqb}
 use lib.ListN.{length}
 use borrow.Author.Tests.{eqb-true}
-use Rattle.ground.specs.Pick.{if}
+use Rattle.ground.proofs.PickLaws.{picked}
 use Rattle.codes.specs.RequestTypes.{request_number}
 use Rattle.ground.specs.declared.address.Address.{Address}
 use Rattle.codes.specs.declared.frame_count_bit.FrameCountBit.{FrameCountBit}
@@ -20,8 +20,6 @@ use Rattle.link_rules.specs.declared.link.Link.{Link}
 use Rattle.link_telegrams.specs.Heard.{DataHeard, data_from, no_data, is_to, read_in, data_to_of, srd_of, request_in, request_to_of, request_from, request_heard_of}
 use Rattle.link_telegrams.specs.declared.heard.RequestHeard.{RequestHeard}
 use Rattle.link_telegrams.specs.declared.heard.RequestHeard.TheVariants as request_heard
-use Rattle.link_telegrams.specs.declared.heard.RequestTo.{RequestTo}
-use Rattle.link_telegrams.specs.declared.heard.RequestTo.TheVariants as request_to
 use Rattle.telegram.proofs.ReadingLaws.{pdu_within}
 use Rattle.telegram.specs.Reading.{Reading, whole, incomplete, refused, read_of}
 use Rattle.telegram.specs.declared.kinds.Telegram.TheVariants.{Data, Token, ShortConfirmation}
@@ -40,14 +38,9 @@ RequestWithin s request_heard.Opening = Unit {0}
 RequestWithin s (request_heard.Order b q) = Within s q
 RequestWithin s request_heard.Nothing = Unit {0}
 
-abbrev pub ToWithin : List ℕ → RequestTo → Type 0
-ToWithin s (request_to.From sa request) = RequestWithin s request
-ToWithin s request_to.Nothing = Unit {0}
-
--- What holds of both sides of a pick, holds of the pick.
-picked : {A : Type 0} (P : A → Type 0) (t : Bool) {a b : A} → (t ≡ true → P a) → (t ≡ false → P b) → P (if t a b)
-picked P true f g = f refl
-picked P false f g = g refl
+abbrev pub ToWithin : List ℕ → Option (Address × RequestHeard) → Type 0
+ToWithin s (Some (sa, request)) = RequestWithin s request
+ToWithin s None = Unit {0}
 
 module _ (s : List ℕ) where
   read_within : (own : Address) (r : Reading) → read_of s ≡ r → DataWithin s (read_in (length s) own r)
@@ -78,9 +71,9 @@ module _ (s : List ℕ) where
   unfolding request_to_of data_to_of
   request_to_within own = in_within (read_in (length s) own (read_of s)) (read_within own (read_of s) refl)
 
-  from_within : (peer : Address) (r : RequestTo) → ToWithin s r → RequestWithin s (request_from peer r)
-  from_within peer (request_to.From sa request) h = picked (RequestWithin s) (eqb sa.0 peer.0) (λ e. h) (λ e. tt)
-  from_within peer request_to.Nothing h = tt
+  from_within : (peer : Address) (r : Option (Address × RequestHeard)) → ToWithin s r → RequestWithin s (request_from peer r)
+  from_within peer (Some (sa, request)) h = picked (RequestWithin s) (eqb sa.0 peer.0) (λ e. h) (λ e. tt)
+  from_within peer None h = tt
 
   pub request_within : (link : Link) → RequestWithin s (request_heard_of link s)
   unfolding request_heard_of

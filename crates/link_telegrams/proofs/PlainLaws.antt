@@ -1,5 +1,6 @@
 -- What heard bytes are to a station, judged on their frame: a law for each way through the code that looks at it. Read `ours` first; the
 -- other laws say when the bytes are nothing to the station.
+use Rattle.std.proofs.Common.{None, Option, Some}
 use Prim.Native.Nat.{ℕ, ◌+◌, ◌-◌, ◌%◌, ◌<◌, ◌≤◌}
 use mathlib.Core.Bool.{Bool, true, false}
 use mathlib.Core.List.{List}
@@ -11,8 +12,6 @@ use lib.ListN.{length}
 use borrow.Author.Tests.{eq-eqb, ne_eqb, le-leb, lt-leb, leb-true, leb-false}
 use Rattle.codes.specs.FunctionCodes.{function_code_of}
 use Rattle.codes.specs.declared.function_code.FunctionCode.{FunctionCode}
-use Rattle.codes.specs.declared.function_code.FunctionCodeFound.{FunctionCodeFound}
-use Rattle.codes.specs.declared.function_code.FunctionCodeFound.TheVariants as codeFound
 use Rattle.ground.proofs.Injective.{zero_one}
 use Rattle.ground.proofs.PickLaws.{picked}
 use Rattle.ground.specs.Part.{byte_at}
@@ -100,6 +99,13 @@ module _ (own : Address) (s : List ℕ) where
   no_start {k} e = no_frame (λ f is. let z : frame_refused k ≡ frame_is f = sym e ∙ is in zero_one cc)
 
   module _ (f : Frame) (found : framing_of s ≡ frame_is f) where
+    -- A frame that was found lies within the bytes.
+    pub found_long : 3 ≤ f.len
+    found_long = (found_frame s f found).long
+
+    pub found_within : f.at + f.len + 2 ≤ length s
+    found_within = let fits = found_frame s f found in omega (arith, fits.counted, fits.within)
+
     pub not_filling : (f.at + f.len + 2 ≡ length s → ⊥) → data_to_of own s ≡ no_data
     not_filling d =
         nothing_of
@@ -129,11 +135,11 @@ module _ (own : Address) (s : List ℕ) where
         (low-da : byte_at s f.at ≤ 127) (low-sa : byte_at s (f.at + 1) ≤ 127) (sealed : sealed_of f s ≡ true)
       where
         by_code :
-            (x : FunctionCodeFound) → function_code_of f.code ≡ x
+            (x : Option FunctionCode) → function_code_of f.code ≡ x
             → data_to_of own s
             ≡ decoded_as (record { 0 = byte_at s (f.at + 1) }) (record { start = f.at + 3; len = f.len - 3 }) x
         unfolding data_to_of header_at
-        by_code (codeFound.Is fc) e =
+        by_code (Some fc) e =
             let da : byte_at s f.at < 128 = omega arith in
             let sa : byte_at s (f.at + 1) < 128 = omega arith in
             let saps = no_saps own s f.at fc da sa in
@@ -146,10 +152,16 @@ module _ (own : Address) (s : List ℕ) where
               saps,
               add-zero (f.at + 3),
             )
-        by_code codeFound.Nothing e = rw (frame_reads s f found, e)
+        by_code None e = rw (frame_reads s f found, e)
 
         pub ours :
             data_to_of own s
             ≡ decoded_as (record { 0 = byte_at s (f.at + 1) }) (record { start = f.at + 3; len = f.len - 3 })
             (function_code_of f.code)
         ours = by_code (function_code_of f.code) refl
+
+-- Each way through the code that looks at a frame, and what it knows of the frame.
+pub ruleset frame_cases = (found_long, found_within, not_filling, other_da, with_dsap, with_ssap, not_sealed, ours)
+
+-- The other ways: no frame was found.
+pub ruleset no_frame_cases = (cut, no_start)

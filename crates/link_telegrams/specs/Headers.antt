@@ -1,5 +1,6 @@
 -- Document 01, "The order link": "Telegrams carry no SAPs, requests SRD low, responses state Slave." Read `opening_header`,
 -- `order_header`, `ok_header`, `reply_header`.
+use Rattle.std.specs.Prelude.{None}
 use Rattle.codes.specs.FunctionCodes.{response_code}
 use Rattle.codes.specs.declared.frame_count_bit.FrameCountBit.{FrameCountBit}
 use Rattle.codes.specs.declared.frame_count_bit.FrameCountBit.TheVariants as fcb
@@ -12,11 +13,10 @@ use Rattle.link_rules.specs.declared.link.Link.{Link}
 use Rattle.link_telegrams.specs.declared.headers.Bit.{Bit}
 use Rattle.link_telegrams.specs.declared.headers.Bit.TheVariants as bit
 use Rattle.telegram.specs.declared.header.DataTelegramHeader.{DataTelegramHeader}
-use Rattle.telegram.specs.declared.header.SapOption.TheVariants as sap
 
 -- from us to the peer, without SAPs
 abbrev pub link_header : Link → FunctionCode → DataTelegramHeader
-link_header link fc = record { da = link.peer; sa = link.own; dsap = sap.None; ssap = sap.None; fc = fc }
+link_header link fc = record { da = link.peer; sa = link.own; dsap = None; ssap = None; fc = fc }
 
 abbrev pub fcb_of_bit : Bit → FrameCountBit
 fcb_of_bit bit.Low = fcb.Low

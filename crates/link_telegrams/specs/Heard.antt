@@ -1,6 +1,6 @@
 -- Document 01, "The order link": what heard bytes are to an end. "Either end hears one telegram that fills the given bytes;
 -- other bytes are ignored." Read `request_to_of`, `request_heard_of`, `reply_heard_of`.
-use Rattle.std.specs.Prelude.{ℕ, Bool, true, false, List, eqb, leb, length}
+use Rattle.std.specs.Prelude.{ℕ, Bool, true, false, List, eqb, leb, length, None, Option, Some}
 use Rattle.ground.specs.Pick.{if}
 use Rattle.ground.specs.declared.address.Address.{Address}
 use Rattle.codes.specs.declared.frame_count_bit.FrameCountBit.{FrameCountBit}
@@ -21,14 +21,11 @@ use Rattle.link_telegrams.specs.declared.heard.ReplyHeard.{ReplyHeard}
 use Rattle.link_telegrams.specs.declared.heard.ReplyHeard.TheVariants as reply_heard
 use Rattle.link_telegrams.specs.declared.heard.RequestHeard.{RequestHeard}
 use Rattle.link_telegrams.specs.declared.heard.RequestHeard.TheVariants as request_heard
-use Rattle.link_telegrams.specs.declared.heard.RequestTo.{RequestTo}
-use Rattle.link_telegrams.specs.declared.heard.RequestTo.TheVariants as request_to
 use Rattle.telegram.specs.Reading.{Reading, whole, incomplete, refused, read_of}
 use Rattle.telegram.specs.declared.header.DataTelegramHeader.{DataTelegramHeader}
-use Rattle.telegram.specs.declared.header.SapOption.{SapOption}
-use Rattle.telegram.specs.declared.header.SapOption.TheVariants as sap
 use Rattle.telegram.specs.declared.kinds.Telegram.{Telegram}
 use Rattle.telegram.specs.declared.kinds.Telegram.TheVariants.{Data, Token, ShortConfirmation}
+use Rattle.ground.specs.declared.address.Sap.{Sap}
 
 -- what heard bytes are to a station: a data telegram to it, by its sender, code and PDU, or nothing
 pub data DataHeard : Type 0 where
@@ -36,9 +33,9 @@ pub data DataHeard : Type 0 where
   no_data : DataHeard
 
 -- no SAP
-abbrev pub absent : SapOption → Bool
-absent (sap.Some s) = false
-absent sap.None = true
+abbrev pub absent : Option Sap → Bool
+absent (Some s) = false
+absent None = true
 
 -- to us, without SAPs
 abbrev pub is_to : DataTelegramHeader → Address → Bool
@@ -68,19 +65,19 @@ srd_of fcb.Low pdu = request_heard.Order bit.Low pdu
 srd_of fcb.Inactive pdu = request_heard.Nothing
 
 -- the station that sent it, and its request
-abbrev pub request_in : DataHeard → RequestTo
+abbrev pub request_in : DataHeard → Option (Address × RequestHeard)
 request_in (data_from sa (Request f req) pdu) =
-    if (eqb (request_number req) (request_number SrdLow)) (request_to.From sa (srd_of f pdu)) request_to.Nothing
-request_in (data_from sa (Response state s) pdu) = request_to.Nothing
-request_in no_data = request_to.Nothing
+    if (eqb (request_number req) (request_number SrdLow)) (Some (sa, srd_of f pdu)) None
+request_in (data_from sa (Response state s) pdu) = None
+request_in no_data = None
 
-unfoldable pub request_to_of : Address → List ℕ → RequestTo
+unfoldable pub request_to_of : Address → List ℕ → Option (Address × RequestHeard)
 request_to_of own s = request_in (data_to_of own s)
 
 -- the request, where the peer sent it
-abbrev pub request_from : Address → RequestTo → RequestHeard
-request_from peer (request_to.From sa request) = if (eqb sa.0 peer.0) request request_heard.Nothing
-request_from peer request_to.Nothing = request_heard.Nothing
+abbrev pub request_from : Address → Option (Address × RequestHeard) → RequestHeard
+request_from peer (Some (sa, request)) = if (eqb sa.0 peer.0) request request_heard.Nothing
+request_from peer None = request_heard.Nothing
 
 -- a response of a slave: "status Ok, empty" is the opening's reply, "status DataLow, 0 to 246 bytes" the order's
 abbrev pub slave_of : ResponseStatus → Part → ReplyHeard

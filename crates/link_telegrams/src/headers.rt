@@ -4,16 +4,17 @@ ghost use Rattle.link_telegrams.specs.Headers.{opening_header, order_header, ok_
 
 use codes::{FrameCountBit, FunctionCode, ResponseState, ResponseStatus};
 use link_rules::Link;
-use telegram::{DataTelegramHeader, SapOption};
+use telegram::DataTelegramHeader;
 
 // The frame count bit of an order, FCV being set.
-#[derive(Clone, Copy)]
+#[derive(Clone, Copy, Debug, PartialEq, Eq)]
 pub enum Bit {
     Low,
     High,
 }
 
 impl Bit {
+    // (No `From`: it is read as a question, `bit.frame_count_bit()`.)
     pub fn frame_count_bit(self) -> FrameCountBit
         ensures { result ≡ fcb_of_bit self }
     {
@@ -36,29 +37,30 @@ impl Bit {
 fn link_header(link: Link, fc: FunctionCode) -> DataTelegramHeader
     ensures { result ≡ link_header link fc }
 {
-    let own = link.own;
-    let peer = link.peer;
     DataTelegramHeader {
-        da: peer,
-        sa: own,
-        dsap: SapOption::None,
-        ssap: SapOption::None,
+        da: link.peer,
+        sa: link.own,
+        dsap: None,
+        ssap: None,
         fc,
     }
 }
 
+#[tactic(auto, unfolding(crate::specs::Headers::opening_header))]
 pub fn opening_header(link: Link) -> DataTelegramHeader
     ensures { result ≡ opening_header link }
 {
     link_header(link, FunctionCode::new_srd_low(FrameCountBit::First))
 }
 
+#[tactic(auto, unfolding(crate::specs::Headers::order_header))]
 pub fn order_header(link: Link, bit: Bit) -> DataTelegramHeader
     ensures { result ≡ order_header link bit }
 {
     link_header(link, FunctionCode::new_srd_low(bit.frame_count_bit()))
 }
 
+#[tactic(auto, unfolding(crate::specs::Headers::ok_header))]
 pub fn ok_header(link: Link) -> DataTelegramHeader
     ensures { result ≡ ok_header link }
 {
@@ -68,6 +70,7 @@ pub fn ok_header(link: Link) -> DataTelegramHeader
     )
 }
 
+#[tactic(auto, unfolding(crate::specs::Headers::reply_header))]
 pub fn reply_header(link: Link) -> DataTelegramHeader
     ensures { result ≡ reply_header link }
 {

@@ -1,10 +1,9 @@
 // What heard bytes are to an end of the link. They are judged on the frame and by the code's byte: no code is decoded and no telegram
 // built. Promises: `specs/Heard.antt`; that both ways agree: `proofs/PlainLaws.antt`.
-ghost use Rattle.std.specs.Prelude.{◌≡◌, ◌+◌, ◌≤◌, length};
-ghost use Rattle.codes.specs.FunctionCodes.{function_code_of};
+ghost use Rattle.std.specs.Prelude.{◌≡◌};
 ghost use Rattle.telegram.specs.Frames.{framing_of, frame_is};
 ghost use Rattle.link_telegrams.specs.Heard.{data_to_of, request_in, request_to_of, request_from, request_heard_of, reply_from, reply_heard_of};
-ghost use Rattle.link_telegrams.specs.Leaves.{decoded_as, decoded, asked_of, is_request};
+ghost use Rattle.link_telegrams.specs.Leaves.{decoded_of, decoded, asked_of, is_request};
 
 use crate::headers::Bit;
 use ground::{Address, Part};
@@ -24,187 +23,154 @@ const OK: u8 = 0x00;
 // Of its response DataLow.
 const DATA_LOW: u8 = 0x08;
 
-// What heard bytes are to a station: one data telegram to it without SAPs that fills them, by its sender, its code's byte and its PDU,
-// or nothing. Whether the byte is one of a code is left open: an end looks for a few codes alone.
+// What a station hears: one data telegram to it without SAPs that fills the bytes, by its sender, its code's byte and its PDU. Whether the
+// byte is one of a code is left open: an end looks for a few codes alone.
 #[derive(Clone, Copy)]
-enum PlainHeard {
-    From(Address, u8, Part),
-    Nothing,
+struct PlainHeard {
+    sa: Address,
+    code: u8,
+    pdu: Part,
 }
 
 // What heard bytes are to a responder.
-#[derive(Clone, Copy)]
+// (No `Option`: what is nothing to an end is one of document 01's cases.)
+#[derive(Clone, Copy, Debug, PartialEq, Eq)]
 pub enum RequestHeard {
     Opening,
     Order(Bit, Part),
     Nothing,
 }
 
-// A request SRD low to a station: who sent it, and what it is to a responder.
-#[derive(Clone, Copy)]
-pub enum RequestTo {
-    From(Address, RequestHeard),
-    Nothing,
-}
-
 // What heard bytes are to an initiator.
-#[derive(Clone, Copy)]
+// (No `Option`, as of `RequestHeard`.)
+#[derive(Clone, Copy, Debug, PartialEq, Eq)]
 pub enum ReplyHeard {
     Ok,
     Reply(Part),
     Nothing,
 }
 
+impl PlainHeard {
+    // What the telegram asks of a responder, whoever sent it.
+    #[tactic(auto, using(crate::proofs::HeardCases::asked_cases))]
+    fn asked(self) -> RequestHeard
+        ensures { result ≡ asked_of (request_in (decoded_of self)) }
+    {
+        match self.code {
+            FIRST if self.pdu.len == 0 => RequestHeard::Opening,
+            HIGH => RequestHeard::Order(Bit::High, self.pdu),
+            LOW => RequestHeard::Order(Bit::Low, self.pdu),
+            _ => RequestHeard::Nothing,
+        }
+    }
+
+    #[tactic(auto, using(crate::proofs::HeardCases::request_cases))]
+    fn is_srd_low(self) -> bool
+        ensures { result ≡ is_request (request_in (decoded_of self)) }
+    {
+        matches!(self.code, FIRST | HIGH | LOW | INACTIVE)
+    }
+
+    // The telegram to a responder, with its sender.
+    fn request(self) -> Option<(Address, RequestHeard)>
+        ensures { result ≡ request_in (decoded_of self) }
+    {
+        if self.is_srd_low() {
+            Some((self.sa, self.asked()))
+        } else {
+            None
+        }
+    }
+
+    // What the telegram asks of the responder of a link: the sender is looked at first, since that is the shorter way to both answers.
+    fn request_from(self, peer: Address) -> RequestHeard
+        ensures { result ≡ request_from peer (request_in (decoded_of self)) }
+    {
+        if self.sa == peer {
+            self.asked()
+        } else {
+            RequestHeard::Nothing
+        }
+    }
+
+    // What the telegram to an initiator is as a reply: the peer's, of a slave.
+    #[tactic(auto, using(crate::proofs::HeardCases::reply_cases))]
+    fn reply_from(self, peer: Address) -> ReplyHeard
+        ensures { result ≡ reply_from peer (decoded_of self) }
+    {
+        if self.sa != peer {
+            return ReplyHeard::Nothing;
+        }
+        match self.code % 128 {
+            OK if self.pdu.len == 0 => ReplyHeard::Ok,
+            DATA_LOW if self.pdu.len <= LONGEST => ReplyHeard::Reply(self.pdu),
+            _ => ReplyHeard::Nothing,
+        }
+    }
+}
+
 // Of a frame that was found in the heard bytes. Whether it fills them is asked of its place and length, from which the seal is told too.
 // An address byte above 127 announces a SAP. The checksum costs the most and comes last.
-fn plain_in(own: Address, heard: &[u8], frame: Frame) -> PlainHeard
-    requires { (framing_of heard.now ≡ frame_is frame) × (3 ≤ frame.len) × (frame.at + frame.len + 2 ≤ length heard.now) }
+#[tactic(auto, using(crate::proofs::PlainLaws::frame_cases))]
+fn plain_in(own: Address, heard: &[u8], frame: Frame) -> Option<PlainHeard>
+    requires { framing_of heard.now ≡ frame_is frame }
     ensures { decoded result ≡ data_to_of own heard.now }
 {
     let at = frame.at;
     if at + frame.len + 2 != heard.len() {
-        return PlainHeard::Nothing;
+        return None;
     }
     let da = heard[at];
     let sa = heard[at + 1];
-    if da != own.0 {
-        return PlainHeard::Nothing;
+    if da != own.0 || 127 < da || 127 < sa || !frame.is_sealed(heard) {
+        return None;
     }
-    if 127 < da {
-        return PlainHeard::Nothing;
-    }
-    if 127 < sa {
-        return PlainHeard::Nothing;
-    }
-    if frame.is_sealed(heard) {
-        let pdu = Part {
+    Some(PlainHeard {
+        sa: Address(sa),
+        code: frame.code,
+        pdu: Part {
             start: at + 3,
             len: frame.len - 3,
-        };
-        PlainHeard::From(Address(sa), frame.code, pdu)
-    } else {
-        PlainHeard::Nothing
-    }
+        },
+    })
 }
 
-fn plain_to(own: Address, heard: &[u8]) -> PlainHeard
+#[tactic(auto, using(crate::proofs::PlainLaws::no_frame_cases))]
+fn plain_to(own: Address, heard: &[u8]) -> Option<PlainHeard>
     ensures { decoded result ≡ data_to_of own heard.now }
 {
     match frame_of(heard) {
         FrameFound::Is(frame) => plain_in(own, heard, frame),
-        FrameFound::Incomplete => PlainHeard::Nothing,
-        FrameFound::Refused(_) => PlainHeard::Nothing,
-    }
-}
-
-// What a telegram asks of a responder, whoever sent it.
-fn asked(code: u8, pdu: Part) -> RequestHeard
-    ensures { (sa : Address) → result ≡ asked_of (request_in (decoded_as sa pdu (function_code_of code))) }
-{
-    match code {
-        FIRST => {
-            if pdu.len == 0 {
-                RequestHeard::Opening
-            } else {
-                RequestHeard::Nothing
-            }
-        }
-        HIGH => RequestHeard::Order(Bit::High, pdu),
-        LOW => RequestHeard::Order(Bit::Low, pdu),
-        _ => RequestHeard::Nothing,
-    }
-}
-
-fn is_srd_low(code: u8) -> bool
-    ensures { (sa : Address) (pdu : Part) → result ≡ is_request (request_in (decoded_as sa pdu (function_code_of code))) }
-{
-    match code {
-        FIRST => true,
-        HIGH => true,
-        LOW => true,
-        INACTIVE => true,
-        _ => false,
-    }
-}
-
-// A telegram to a responder, with its sender.
-fn request_in(sa: Address, code: u8, pdu: Part) -> RequestTo
-    ensures { result ≡ request_in (decoded_as sa pdu (function_code_of code)) }
-{
-    if is_srd_low(code) {
-        RequestTo::From(sa, asked(code, pdu))
-    } else {
-        RequestTo::Nothing
-    }
-}
-
-// What a telegram asks of the responder of a link: the sender is looked at first, since that is the shorter way to both answers.
-fn request_from(peer: Address, sa: Address, code: u8, pdu: Part) -> RequestHeard
-    ensures { result ≡ request_from peer (request_in (decoded_as sa pdu (function_code_of code))) }
-{
-    if sa.0 == peer.0 {
-        asked(code, pdu)
-    } else {
-        RequestHeard::Nothing
+        FrameFound::Incomplete | FrameFound::Refused(_) => None,
     }
 }
 
 // Which station's request SRD low to `own` these bytes are, and what it is to a responder.
-pub fn request_to(own: Address, heard: &[u8]) -> RequestTo
+#[tactic(auto, unfolding(crate::specs::Heard::request_to_of))]
+pub fn request_to(own: Address, heard: &[u8]) -> Option<(Address, RequestHeard)>
     ensures { result ≡ request_to_of own heard.now }
 {
-    match plain_to(own, heard) {
-        PlainHeard::From(sa, code, pdu) => request_in(sa, code, pdu),
-        PlainHeard::Nothing => RequestTo::Nothing,
-    }
+    plain_to(own, heard)?.request()
 }
 
 // What these bytes are to the responder of the link: a request of its initiator.
+#[tactic(auto, unfolding(crate::specs::Heard::request_heard_of, crate::specs::Heard::request_to_of))]
 pub fn request_heard(link: Link, heard: &[u8]) -> RequestHeard
     ensures { result ≡ request_heard_of link heard.now }
 {
-    let own = link.own;
-    let peer = link.peer;
-    match plain_to(own, heard) {
-        PlainHeard::From(sa, code, pdu) => request_from(peer, sa, code, pdu),
-        PlainHeard::Nothing => RequestHeard::Nothing,
-    }
-}
-
-// What a telegram to an initiator is as a reply: the peer's, of a slave.
-fn reply_in(peer: Address, sa: Address, code: u8, pdu: Part) -> ReplyHeard
-    ensures { result ≡ reply_from peer (decoded_as sa pdu (function_code_of code)) }
-{
-    if sa.0 != peer.0 {
-        return ReplyHeard::Nothing;
-    }
-    match code % 128 {
-        OK => {
-            if pdu.len != 0 {
-                ReplyHeard::Nothing
-            } else {
-                ReplyHeard::Ok
-            }
-        }
-        DATA_LOW => {
-            if pdu.len <= LONGEST {
-                ReplyHeard::Reply(pdu)
-            } else {
-                ReplyHeard::Nothing
-            }
-        }
-        _ => ReplyHeard::Nothing,
-    }
+    let Some(plain) = plain_to(link.own, heard) else {
+        return RequestHeard::Nothing;
+    };
+    plain.request_from(link.peer)
 }
 
 // What these bytes are to the initiator of the link: a reply of its responder.
+#[tactic(auto, unfolding(crate::specs::Heard::reply_heard_of))]
 pub fn reply_heard(link: Link, heard: &[u8]) -> ReplyHeard
     ensures { result ≡ reply_heard_of link heard.now }
 {
-    let own = link.own;
-    let peer = link.peer;
-    match plain_to(own, heard) {
-        PlainHeard::From(sa, code, pdu) => reply_in(peer, sa, code, pdu),
-        PlainHeard::Nothing => ReplyHeard::Nothing,
-    }
+    let Some(plain) = plain_to(link.own, heard) else {
+        return ReplyHeard::Nothing;
+    };
+    plain.reply_from(link.peer)
 }

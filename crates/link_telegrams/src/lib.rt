@@ -6,4 +6,4 @@ pub mod headers;
 pub mod heard;
 
 pub use headers::{Bit, ok_header, opening_header, order_header, reply_header};
-pub use heard::{ReplyHeard, RequestHeard, RequestTo, reply_heard, request_heard, request_to};
+pub use heard::{ReplyHeard, RequestHeard, reply_heard, request_heard, request_to};

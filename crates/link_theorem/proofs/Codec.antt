@@ -1,5 +1,6 @@
 -- The messages of the link as telegrams between two stations. What is put is got back by the end that it is for and is nothing to
 -- the end that wrote it, and bytes that do not bear both addresses are nothing to either end.
+use Rattle.std.proofs.Common.{None, Some}
 use Prim.Native.Nat.{ℕ, ◌≤◌}
 use mathlib.Core.Bool.{Bool, true, false, not, true≢false}
 use mathlib.Core.List.{List, []}
@@ -31,7 +32,6 @@ use Rattle.link_telegrams.specs.declared.heard.ReplyHeard.{ReplyHeard}
 use Rattle.link_telegrams.specs.declared.heard.ReplyHeard.TheVariants as reply_heard
 use Rattle.link_telegrams.specs.declared.heard.RequestHeard.{RequestHeard}
 use Rattle.link_telegrams.specs.declared.heard.RequestHeard.TheVariants as request_heard
-use Rattle.link_telegrams.specs.declared.heard.RequestTo.TheVariants as request_to
 use Rattle.link_theorem.proofs.Views.{bit_seen, bit_put, seen_put}
 use Rattle.link_theorem.specs.OrderLink.{goes, bears_in, bears_both}
 use Rattle.telegram.specs.Picture.{telegram_bytes}
@@ -88,7 +88,7 @@ not_there P i n false x y x' y' z f p e = p
 not_asked : (peer sa : Address) (fc : FunctionCode) (pdu : Part) → (sa.0 ≡ peer.0 → ⊥) → request_from peer (request_in (data_from sa fc pdu)) ≡ request_heard.Nothing
 not_asked peer sa (Request f req) pdu d = go (eqb (request_number req) (request_number SrdLow))
   where
-    go : (t : Bool) → request_from peer (if t (request_to.From sa (srd_of f pdu)) request_to.Nothing) ≡ request_heard.Nothing
+    go : (t : Bool) → request_from peer (if t (Some (sa, srd_of f pdu)) None) ≡ request_heard.Nothing
     go true = another_asked peer sa (srd_of f pdu) d
     go false = refl
 not_asked peer sa (Response state s) pdu d = refl

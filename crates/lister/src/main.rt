@@ -1,79 +1,46 @@
 // Lists the telegrams of standard input on standard output. Promise: `output_of` of crate `listing`, in `put_output`.
 #![tactic(auto)]
 
-ghost use Rattle.std.specs.Prelude.{◌≡◌, ◌≤◌, length};
-ghost use Rattle.listing.specs.Answers.{text_in};
+ghost use Rattle.std.specs.Prelude.{◌≡◌, ◌≤◌, length, IfOk};
 ghost use Rattle.listing.specs.Listing.{listing_room, output_of};
-ghost use Rattle.lister.specs.Leaves.{MoreWithin, InputWithin};
 
-use listing::{LISTING_ROOM, Listed};
+use listing::LISTING_ROOM;
+use std::io;
 use std::io::{Print, Read, Stderr, Stdin, Stdout};
 use std::process::ExitCode;
 
 // One more byte than the lister takes is enough to know that the input is above the limit.
 const INPUT_ROOM: usize = 4097;
 
-// What one read found: so many bytes, the end of the input, or that it failed.
-#[derive(Clone, Copy)]
-enum More {
-    Bytes(usize),
-    End,
-    Failed,
-}
-
-// How many bytes were read in all.
-#[derive(Clone, Copy)]
-enum Input {
-    Bytes(usize),
-    Failed,
-}
-
-// One read, into what is left of the buffer from a place on.
-fn read_more(stdin: &mut Stdin, buf: &mut [u8], at: usize) -> More
-    requires { at ≤ length buf.old }
-    ensures { MoreWithin result at (length buf.old) }
+// Reads until the buffer is full, the input ends or a read fails; so many bytes lie at the front of the buffer.
+// (The lister is proved from its streams on and uses no support code of programs, so it reads by itself.)
+fn read_input(stdin: &mut Stdin, buf: &mut [u8]) -> io::Result<usize>
+    ensures { IfOk result (λ len. len ≤ length buf.old) }
 {
-    match stdin.read(&mut buf[at..]) {
-        Ok(0) => More::End,
-        Ok(n) => More::Bytes(n),
-        Err(_) => More::Failed,
-    }
-}
-
-// Reads until the buffer is full, the input ends or a read fails.
-fn read_input(stdin: &mut Stdin, buf: &mut [u8]) -> Input
-    ensures { InputWithin result (length buf.old) }
-{
+    // How much a read gives is known only behind it, so this is no `for`.
     let mut len = 0;
     while len < buf.len() {
-        let more = read_more(stdin, buf, len);
-        match more {
-            More::Bytes(n) => {
-                len += n;
-            }
-            More::End => {
-                return Input::Bytes(len);
-            }
-            More::Failed => {
-                return Input::Failed;
-            }
+        let n = stdin.read(&mut buf[len..])?;
+        if n == 0 {
+            return Ok(len);
         }
+        len += n;
     }
-    Input::Bytes(len)
+    Ok(len)
 }
 
-// With this room the text is never refused: what is printed is what document 01 says of the input.
-fn put_output(input: &[u8], buf: &mut [u8]) -> Listed
+// With this room the text is never refused: what is shown is what document 01 says of the input.
+#[tactic(auto, using(listing::proofs::AnswerLaws::output_shown))]
+fn put_output<'a>(input: &[u8], buf: &'a mut [u8]) -> &'a [u8]
     requires { listing_room ≤ length buf.old }
-    ensures { text_in result buf.new ≡ output_of input.now }
+    ensures { result.now ≡ output_of input.now }
 {
-    listing::output(input, buf)
+    let listed = listing::output(input, buf);
+    listing::text(listed, buf)
 }
 
-fn print(stdout: Stdout, input: &[u8]) -> bool {
-    let mut text = [0u8; LISTING_ROOM];
-    let listed = put_output(input, &mut text);
-    stdout.write_all(listed.text(&text)).is_ok()
+fn print(stdout: Stdout, input: &[u8]) -> io::Result<()> {
+    stdout.write_all(put_output(input, &mut [0u8; LISTING_ROOM]))
 }
 
 // Says why the list was not made. Nothing is left to say where standard error cannot be written.
@@ -84,11 +51,10 @@ fn failed(stderr: Stderr, why: &[u8]) -> ExitCode {
 
 fn main(rt: HostRuntime) -> ExitCode {
     let mut input = [0u8; INPUT_ROOM];
-    let read = read_input(&mut rt.stdin(), &mut input);
-    let Input::Bytes(len) = read else {
+    let Ok(len) = read_input(&mut rt.stdin(), &mut input) else {
         return failed(rt.stderr(), b"lister: standard input could not be read\n");
     };
-    if !print(rt.stdout(), &input[..len]) {
+    if print(rt.stdout(), &input[..len]).is_err() {
         return failed(
             rt.stderr(),
             b"lister: standard output could not be written\n",

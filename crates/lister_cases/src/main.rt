@@ -2,16 +2,16 @@
 // calls around their limits, held to the stored output.
 #![tactic(auto)]
 
-use ground::Part;
+use ground::{Part, Refusal};
 use line_text::printing::{Streams, print, print_decimal, read_full};
-use listing::{LISTING_ROOM, Listed};
+use listing::LISTING_ROOM;
 use std::io;
 
 // All that the lister prints for these bytes.
 fn show(streams: &Streams, input: &[u8]) {
     let mut text = [0u8; LISTING_ROOM];
     let listed = listing::output(input, &mut text);
-    print(streams, listed.text(&text));
+    print(streams, listing::text(listed, &text));
 }
 
 fn print_number(streams: &Streams, name: &[u8], number: usize) {
@@ -20,14 +20,10 @@ fn print_number(streams: &Streams, name: &[u8], number: usize) {
     print(streams, b"\n");
 }
 
-fn print_answer(streams: &Streams, listed: Listed) {
+fn print_answer(streams: &Streams, listed: Result<usize, Refusal>) {
     match listed {
-        Listed::Text(len) => print_number(streams, b"text of ", len),
-        Listed::Refused(refusal) => print_number(
-            streams,
-            b"refused by ",
-            refusal.number() as usize,
-        ),
+        Ok(len) => print_number(streams, b"text of ", len),
+        Err(refusal) => print_number(streams, b"refused by ", refusal.number() as usize),
     }
 }
 
@@ -40,42 +36,47 @@ fn list_into(streams: &Streams, input: &[u8], buf: &mut [u8]) {
 
 // What `list` answers where there is always room.
 fn measure(streams: &Streams, input: &[u8]) {
-    let mut text = [0u8; LISTING_ROOM];
-    print_answer(streams, listing::list(input, &mut text));
+    print_answer(streams, listing::list(input, &mut [0u8; LISTING_ROOM]));
 }
 
 // Two captures of one length.
 fn captures(streams: &Streams) {
     let mut both = [0u8; 65536];
     let len = read_full(streams, &mut both) / 2;
-    let first = Part { start: 0, len };
-    let second = Part { start: len, len };
-    show(streams, first.show(&both));
-    show(streams, second.show(&both));
+    for start in [0, len] {
+        show(streams, Part { start, len }.show(&both));
+    }
 }
 
 fn ends(streams: &Streams) {
-    show(streams, b"");
-    show(streams, b"\xE5\x00\xE5");
-    show(streams, b"\xE5\x10\x05\x02\x49\x50");
-    show(streams, b"\x68\x05\x05\x68\x05\x02\x5C\x01\x03\x66\x16");
+    let inputs: [&[u8]; 4] = [
+        b"",
+        b"\xE5\x00\xE5",
+        b"\xE5\x10\x05\x02\x49\x50",
+        b"\x68\x05\x05\x68\x05\x02\x5C\x01\x03\x66\x16",
+    ];
+    for input in inputs {
+        show(streams, input);
+    }
 }
 
 fn kinds(streams: &Streams) {
-    show(streams, b"\xDC\xFF\x80\xE5");
-    show(streams, b"\x68\x05\x05\x68\x05\x02\x5C\x01\x03\x67\x16");
-    show(streams, b"\x68\x05\x05\x68\x85\x82\x6C\x3C\x3E\xED\x16");
-    show(streams, b"\x10\x00\x00\x80\x80\x16");
-    show(
-        streams,
+    let inputs: [&[u8]; 5] = [
+        b"\xDC\xFF\x80\xE5",
+        b"\x68\x05\x05\x68\x05\x02\x5C\x01\x03\x67\x16",
+        b"\x68\x05\x05\x68\x85\x82\x6C\x3C\x3E\xED\x16",
+        b"\x10\x00\x00\x80\x80\x16",
         b"\xA2\x05\x02\x5C\x01\x02\x03\x04\x05\x06\x07\x08\x87\x16",
-    );
+    ];
+    for input in inputs {
+        show(streams, input);
+    }
 }
 
 fn rooms(streams: &Streams) {
-    list_into(streams, b"\xE5", &mut [b'.'; 80]);
-    list_into(streams, b"\xE5", &mut [b'.'; 77]);
-    list_into(streams, b"\xE5", &mut [b'.'; 76]);
+    for room in [80, 77, 76] {
+        list_into(streams, b"\xE5", &mut [b'.'; 80][..room]);
+    }
 }
 
 fn limits(streams: &Streams) {

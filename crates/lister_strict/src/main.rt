@@ -3,14 +3,13 @@
 #![tactic(auto)]
 
 ghost use Rattle.std.specs.Prelude.{◌≡◌, ◌≤◌, length};
-ghost use Rattle.listing.specs.Answers.{text_in};
 ghost use Rattle.listing.specs.Listing.{listing_room, output_in};
 ghost use Rattle.telegram_strict.specs.declared.strict.Mode.TheVariants.{Strict};
 
 use line_text::bytes::front;
 use line_text::printing;
 use line_text::printing::{Streams, is_readable, is_written, print_error, read_full};
-use listing::{LISTING_ROOM, Listed};
+use listing::LISTING_ROOM;
 use std::io;
 use telegram_strict::Mode;
 
@@ -18,17 +17,17 @@ use telegram_strict::Mode;
 const INPUT_ROOM: usize = 4097;
 
 // With this room the text is never refused.
-fn put_output(input: &[u8], buf: &mut [u8]) -> Listed
+#[tactic(auto, using(listing::proofs::AnswerLaws::output_shown))]
+fn put_output<'a>(input: &[u8], buf: &'a mut [u8]) -> &'a [u8]
     requires { listing_room ≤ length buf.old }
-    ensures { text_in result buf.new ≡ output_in Strict input.now }
+    ensures { result.now ≡ output_in Strict input.now }
 {
-    listing::output_in(Mode::Strict, input, buf)
+    let listed = listing::output_in(Mode::Strict, input, buf);
+    listing::text(listed, buf)
 }
 
 fn print(streams: &Streams, input: &[u8]) -> bool {
-    let mut text = [0u8; LISTING_ROOM];
-    let listed = put_output(input, &mut text);
-    printing::print(streams, listed.text(&text));
+    printing::print(streams, put_output(input, &mut [0u8; LISTING_ROOM]));
     is_written(streams)
 }
 

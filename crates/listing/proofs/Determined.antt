@@ -3,8 +3,8 @@ use mathlib.Core.Path.{refl}
 use Rattle.ground.proofs.DeterminedLaws.{gives, shows}
 use Rattle.ground.specs.Determined.{Determined, ShownDetermined}
 use Rattle.listing.proofs.AnswerLaws.{shown_listed_injective}
-use Rattle.listing.specs.contracts.whole.Listed.text as listed_text
-use Rattle.listing.proofs.whole.Listed.text.Reads as listed_text_reads
+use Rattle.listing.specs.contracts.whole.text as text
+use Rattle.listing.proofs.whole.text.Reads as text_reads
 use Rattle.listing.specs.contracts.whole.list as list
 use Rattle.listing.proofs.whole.list.Reads as list_reads
 use Rattle.listing.specs.contracts.whole.list_in as list_in
@@ -19,7 +19,7 @@ pub record Calls : Type 0 where
   pub list_in : Determined list_in.ended list_in_reads.Learnt
   pub output_in : Determined output_in.ended output_in_reads.Learnt
   pub output : Determined output.ended output_reads.Learnt
-  pub listed_text : ShownDetermined listed_text.ended (λ κs. (λ x. x.now)) listed_text_reads.Learnt
+  pub text : ShownDetermined text.ended (λ κs. (λ x. x.now)) text_reads.Learnt
 
 pub determined : Calls
 determined =
@@ -28,5 +28,5 @@ determined =
       list_in = gives (λ κs a x e p. (p.result, p.buffer)) (λ κs. shown_listed_injective) (λ κs a u v p i. (tt, (tt, (p i, tt))));
       output_in = gives (λ κs a x e p. (p.result, p.buffer)) (λ κs. shown_listed_injective) (λ κs a u v p i. (tt, (tt, (p i, tt))));
       output = gives (λ κs a x e p. (p.result, p.buffer)) (λ κs. shown_listed_injective) (λ κs a u v p i. (tt, (p i, tt)));
-      listed_text = shows (λ κs a u v. refl);
+      text = shows (λ κs a u v. refl);
     }

@@ -1,4 +1,5 @@
 -- Laws of the item at a place: its reason, `item_for`; where the function code stands, `code_within`; and how long its line is, `item_short`.
+use Rattle.std.proofs.Common.{Some}
 use mathlib.Core.Bool.{Bool, true, false}
 use mathlib.Core.List.{List}
 use mathlib.Core.Path.{◌≡◌, refl}
@@ -6,13 +7,12 @@ use Prim.Native.Nat.{ℕ, ◌+◌, ◌*◌, ◌≤◌, ◌<◌}
 use native.Mathlib.Omega.{arith}
 use lib.Dec.{eqb}
 use lib.ListN.{length}
-use borrow.Author.Tests.{eqb-true, eqb-false, eq-eqb, ne_eqb}
+use borrow.Author.Tests.{eqb-true, eqb-false}
 use Rattle.ground.specs.Bits.{digit}
 use Rattle.codes.specs.FunctionCodes.{function_code_of}
 use Rattle.codes.specs.declared.function_code.FunctionCode.{FunctionCode}
 use Rattle.ground.specs.Part.{byte_at}
 use Rattle.ground.specs.Pick.{if}
-use Rattle.codes.specs.declared.function_code.FunctionCodeFound.TheVariants as codeFound
 use Rattle.telegram.specs.Begins.{Bytes}
 use Rattle.telegram.specs.Stream as ending
 use Rattle.telegram.specs.Reading.{Reading, whole, incomplete, refused, top, sap_at, header_at, token_at, read_of}
@@ -65,16 +65,6 @@ item_for mode at s = go (eqb (length s) 0) refl
 pub item_reason : {mode : Mode} (at : ℕ) (s : List ℕ) {x : Item} → item_of mode at s ≡ x → ItemFor mode at s x
 item_reason {mode} at s e = rw e at (item_for mode at s)
 
--- the item, by what the reader answers
-module _ (mode : Mode) (at : ℕ) (s : List ℕ) where
-  pub item_done : length s ≡ 0 → item_of mode at s ≡ item.Last Done at
-  unfolding item_of
-  item_done e = rw (eq-eqb _ _ e)
-
-  pub item_read_lem : {r : Reading} → (length s ≡ 0 → ⊥) → read_in mode s ≡ r → item_of mode at s ≡ item_read at s r
-  unfolding item_of
-  item_read_lem h e = rw (ne_eqb _ _ h, e)
-
 -- a line says the place and the length of its telegram
 pub line_place : (at : ℕ) (s : List ℕ) (t : Telegram) (n : ℕ) → ((line_at at s t n).at ≡ at) × ((line_at at s t n).len ≡ n)
 line_place at s (telegram.Data t) n = (refl, refl)
@@ -108,14 +98,14 @@ code_lies (sd3 h d (code_known fc g e c)) = rw d (omega arith)
 pub code_within : (s : List ℕ) {t : DataTelegram} {n : ℕ} → read_of s ≡ whole (telegram.Data t) n → code_place s < length s
 code_within s e = code_lies (reason s e)
 
-code_is : {s : List ℕ} {t : DataTelegram} {n : ℕ} → Answered s (whole (telegram.Data t) n) → function_code_of (byte_at s (code_place s)) ≡ codeFound.Is t.h.fc
+code_is : {s : List ℕ} {t : DataTelegram} {n : ℕ} → Answered s (whole (telegram.Data t) n) → function_code_of (byte_at s (code_place s)) ≡ Some t.h.fc
 unfolding header_at
 code_is (sd1 h d (code_known fc g e c)) = rw (whole_data fc c, d) e
 code_is (sd2 h d q l (code_known fc g e c)) = rw (whole_data fc c, d) e
 code_is (sd3 h d (code_known fc g e c)) = rw (whole_data fc c, d) e
 
 -- the byte that `fc` shows is the one from which the telegram's function code was read
-pub code_read : (s : List ℕ) {t : DataTelegram} {n : ℕ} → read_of s ≡ whole (telegram.Data t) n → function_code_of (byte_at s (code_place s)) ≡ codeFound.Is t.h.fc
+pub code_read : (s : List ℕ) {t : DataTelegram} {n : ℕ} → read_of s ≡ whole (telegram.Data t) n → function_code_of (byte_at s (code_place s)) ≡ Some t.h.fc
 code_read s e = code_is (reason s e)
 
 -- ---- how long a line is

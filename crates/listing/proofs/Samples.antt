@@ -1,4 +1,5 @@
 -- Document 01's example and the cases around it, computed on the definitions; and what `bytes=` says of every input.
+use Rattle.std.proofs.Common.{Some}
 use mathlib.Core.Bool.{true}
 use mathlib.Core.List.{List, [], ◌∷◌, ◌++◌, append_assoc}
 use mathlib.Core.Path.{◌≡◌, refl}
@@ -16,7 +17,6 @@ use Rattle.telegram_strict.specs.Strict.{past_lengths, start_of, strict_of}
 use Rattle.text.specs.Begins.{begins}
 use Rattle.text.specs.Decimal.{digits, decimal_of, is_digit, digits_in, number_at}
 use Rattle.text.specs.Quoted.{bytes_of}
-use Rattle.text.specs.declared.decimal.Number.TheVariants.{Is}
 use Rattle.text.proofs.ReadingLaws.{number_written}
 use Rattle.listing_lines.specs.Lines.{place_of, header_of, content_of, line_of, end_of}
 use Rattle.listing.specs.Listing.{stream_text, bytes_line, listing_in, listing_of, output_of}
@@ -92,7 +92,7 @@ unfolding begins listing_in bytes_line
 bytes_named input = refl
 
 pub bytes_told : (input : List ℕ) (limit : ℕ) → length input ≤ limit
-    → number_at (listing_of input) 6 limit ≡ Is (length input) (6 + length (decimal_of (length input)))
+    → number_at (listing_of input) 6 limit ≡ Some (record { value = length input; next = 6 + length (decimal_of (length input)) })
 unfolding listing_in bytes_line digits_in is_digit
 bytes_told input limit h =
     let rest = stream_text input (stream_of input) in

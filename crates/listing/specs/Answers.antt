@@ -1,24 +1,23 @@
 -- What the two calls answer, and what the buffer holds afterwards. Read `Printed`, which is their promise.
-use Rattle.std.specs.Prelude.{◌≡◌, List, ℕ, leb, ltb, length}
+use Rattle.std.specs.Prelude.{◌≡◌, List, ℕ, leb, ltb, length, Err, Ok, Result}
 use Rattle.ground.specs.Part.{shown_part}
 use Rattle.ground.specs.Pick.{if}
 use Rattle.ground.specs.Refusals.{number_of, OrRefused, gives, refused}
 use Rattle.text.specs.Placed.{laid}
-use Rattle.listing.specs.declared.whole.Listed.{Listed}
-use Rattle.listing.specs.declared.whole.Listed.TheVariants.{Text, Refused}
 use Rattle.telegram_strict.specs.declared.strict.Mode.{Mode}
 use Rattle.telegram_strict.specs.declared.strict.Mode.TheVariants.{Default}
 use Rattle.listing.specs.Listing.{listing_in}
+use Rattle.ground.specs.declared.refusal.Refusal.{Refusal}
 
 -- an answer as the length of the text, or document 01's number
-abbrev pub shown_listed : Listed → OrRefused ℕ
-shown_listed (Text len) = gives len
-shown_listed (Refused refusal) = refused (number_of refusal)
+abbrev pub shown_listed : Result ℕ Refusal → OrRefused ℕ
+shown_listed (Ok len) = gives len
+shown_listed (Err refusal) = refused (number_of refusal)
 
 -- the text that stands in the buffer: the part in front of its length; of a refused call, the part of no bytes
-abbrev pub text_in : Listed → List ℕ → List ℕ
-text_in (Text len) buffer = shown_part (record { start = 0; len = len }) buffer
-text_in (Refused refusal) buffer = shown_part (record { start = 0; len = 0 }) buffer
+abbrev pub text_in : Result ℕ Refusal → List ℕ → List ℕ
+text_in (Ok len) buffer = shown_part (record { start = 0; len = len }) buffer
+text_in (Err refusal) buffer = shown_part (record { start = 0; len = 0 }) buffer
 
 -- a text is printed into a buffer that has room for it: "10: buffer too short"
 unfoldable pub printed_of : List ℕ → ℕ → OrRefused ℕ
@@ -38,6 +37,6 @@ left_by before text (gives len) = laid before 0 text
 left_by before text (refused number) = before
 
 -- a call's promise: its answer, and every byte of the buffer afterwards
-pub record Printed (text before : List ℕ) (outcome : OrRefused ℕ) (answer : Listed) (after : List ℕ) : Type 0 where
+pub record Printed (text before : List ℕ) (outcome : OrRefused ℕ) (answer : Result ℕ Refusal) (after : List ℕ) : Type 0 where
   pub result : shown_listed answer ≡ outcome
   pub buffer : after ≡ left_by before text outcome

@@ -8,24 +8,15 @@ ghost use Rattle.listing.specs.Leaves.{item_of};
 ghost use Rattle.listing.specs.Telegrams.{code_place, sap_figure, line_at};
 
 use codes::consts;
-use listing_lines::{End, Figure, Item, Kind, Line};
-use telegram::{DataTelegram, SapOption, Telegram, TokenTelegram};
+use ground::Sap;
+use listing_lines::{End, Item, Kind, Line};
+use telegram::{DataTelegram, Telegram, TokenTelegram};
 use telegram_strict::{DeserializedIn, Mode, deserialize_in};
 
-// A byte as a number of another width.
-fn wide(byte: u8) -> usize
-    ensures { result ≡ byte }
-{
-    byte as usize
-}
-
-fn sap_figure(sap: SapOption) -> Figure
+fn sap_figure(sap: Option<Sap>) -> Option<usize>
     ensures { result ≡ sap_figure sap }
 {
-    match sap {
-        SapOption::Some(sap) => Figure::Number(wide(sap.0)),
-        SapOption::None => Figure::Absent,
-    }
+    sap.map(|sap| sap.0 as usize)
 }
 
 fn ack_line(at: usize, len: usize) -> Line
@@ -35,30 +26,28 @@ fn ack_line(at: usize, len: usize) -> Line
         at,
         kind: Kind::Ack,
         len,
-        da: Figure::Absent,
-        sa: Figure::Absent,
-        dsap: Figure::Absent,
-        ssap: Figure::Absent,
-        fc: Figure::Absent,
-        pdu: Figure::Absent,
+        da: None,
+        sa: None,
+        dsap: None,
+        ssap: None,
+        fc: None,
+        pdu: None,
     }
 }
 
 fn token_line(at: usize, t: TokenTelegram, len: usize) -> Line
     ensures { result ≡ line_at at [] (Token t) len }
 {
-    let da = t.da;
-    let sa = t.sa;
     Line {
         at,
         kind: Kind::Token,
         len,
-        da: Figure::Number(wide(da.0)),
-        sa: Figure::Number(wide(sa.0)),
-        dsap: Figure::Absent,
-        ssap: Figure::Absent,
-        fc: Figure::Absent,
-        pdu: Figure::Absent,
+        da: Some(t.da.0 as usize),
+        sa: Some(t.sa.0 as usize),
+        dsap: None,
+        ssap: None,
+        fc: None,
+        pdu: None,
     }
 }
 
@@ -74,26 +63,21 @@ fn code_received(bytes: &[u8]) -> u8
     }
 }
 
+#[tactic(auto, using(crate::proofs::ItemLaws::code_within))]
 fn data_line(at: usize, bytes: &[u8], t: DataTelegram, len: usize) -> Line
     requires { read_of bytes.now ≡ whole (Data t) len }
     ensures { result ≡ line_at at bytes.now (Data t) len }
 {
-    let h = t.h;
-    let da = h.da;
-    let sa = h.sa;
-    let dsap = h.dsap;
-    let ssap = h.ssap;
-    let pdu = t.pdu;
     Line {
         at,
         kind: Kind::Data,
         len,
-        da: Figure::Number(wide(da.0)),
-        sa: Figure::Number(wide(sa.0)),
-        dsap: sap_figure(dsap),
-        ssap: sap_figure(ssap),
-        fc: Figure::Number(wide(code_received(bytes))),
-        pdu: Figure::Number(pdu.len),
+        da: Some(t.h.da.0 as usize),
+        sa: Some(t.h.sa.0 as usize),
+        dsap: sap_figure(t.h.dsap),
+        ssap: sap_figure(t.h.ssap),
+        fc: Some(code_received(bytes) as usize),
+        pdu: Some(t.pdu.len),
     }
 }
 
@@ -109,14 +93,14 @@ fn line_at(at: usize, bytes: &[u8], telegram: Telegram, len: usize) -> Line
 }
 
 // The bytes are the input from a place on.
+#[tactic(auto, using(telegram_strict::proofs::ModeLaws::mode_alike), unfolding(crate::specs::Leaves::item_of))]
 fn item_of(mode: Mode, at: usize, bytes: &[u8]) -> Item
     ensures { result ≡ item_of mode at bytes.now }
 {
-    if bytes.len() == 0 {
+    if bytes.is_empty() {
         return Item::Last(End::Done, at);
     }
-    let found = deserialize_in(mode, bytes);
-    match found {
+    match deserialize_in(mode, bytes) {
         DeserializedIn::Telegram(t, len) => Item::Telegram(line_at(at, bytes, t, len)),
         DeserializedIn::Incomplete => Item::Last(End::Incomplete, at),
         DeserializedIn::Refused(number) => Item::Last(End::Refused(number), at),

@@ -6,4 +6,4 @@
 mod items;
 pub mod whole;
 
-pub use whole::{INPUT_LIMIT, LISTING_ROOM, Listed, list, list_in, output, output_in};
+pub use whole::{INPUT_LIMIT, LISTING_ROOM, list, list_in, output, output_in, text};

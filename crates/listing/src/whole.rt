@@ -18,23 +18,15 @@ pub const INPUT_LIMIT: usize = 4096;
 // A buffer of this length always has room (output_printed of proofs/AnswerLaws.antt).
 pub const LISTING_ROOM: usize = 237596;
 
-// The length of the text that a call made at the buffer's front.
-#[derive(Clone, Copy)]
-pub enum Listed {
-    Text(usize),
-    Refused(Refusal),
-}
-
-impl Listed {
-    // The text, in the buffer that it was made in; no bytes where the call was refused.
-    pub fn text(self, buf: &[u8]) -> &[u8]
-        ensures { result.now ≡ text_in self buf.now }
-    {
-        match self {
-            Listed::Text(len) => Part { start: 0, len }.show(buf),
-            Listed::Refused(_) => Part { start: 0, len: 0 }.show(buf),
-        }
+// The text, in the buffer that it was made in; no bytes where the call was refused.
+pub fn text(listed: Result<usize, Refusal>, buf: &[u8]) -> &[u8]
+    ensures { result.now ≡ text_in listed buf.now }
+{
+    Part {
+        start: 0,
+        len: listed.unwrap_or(0),
     }
+    .show(buf)
 }
 
 // No line is longer than a scratch line (item_short of proofs/ItemLaws.antt), so that putting it there counts its bytes.
@@ -46,12 +38,14 @@ fn item_len(item: Item) -> usize
     put_item(&mut scratch, 0, item)
 }
 
+#[tactic(auto, using(crate::proofs::ListingLaws::ends_within))]
 fn lines_len(mode: Mode, input: &[u8]) -> usize
     requires { length input.now ≤ 4096 }
     ensures { result ≡ length (lines_at mode input.now 0) }
 {
     let mut len = 0;
     let mut at = 0;
+    // A loop and no iterator over the items: the last one, behind which there is none, counts too.
     loop {
         let item = item_at(mode, input, at);
         len += item_len(item);
@@ -62,12 +56,15 @@ fn lines_len(mode: Mode, input: &[u8]) -> usize
     }
 }
 
+// (The walk of `lines_len` again: one over what is done at each item would be longer than both.)
+#[tactic(auto, using(crate::proofs::ListingLaws::ends_within, crate::proofs::ListingLaws::goes_on))]
 fn put_lines(mode: Mode, buf: &mut [u8], to: usize, input: &[u8]) -> usize
     requires { to ≤ length buf.old + 1 }
     ensures { Placed buf.old to (lines_at mode input.now 0) result buf.new }
 {
     let mut next = to;
     let mut at = 0;
+    // As in `lines_len`.
     loop {
         let item = item_at(mode, input, at);
         next = put_item(buf, next, item);
@@ -78,6 +75,7 @@ fn put_lines(mode: Mode, buf: &mut [u8], to: usize, input: &[u8]) -> usize
     }
 }
 
+#[tactic(auto, using(crate::proofs::ListingLaws::lines_small, crate::proofs::ListingLaws::listing_length, listing_lines::proofs::LineLaws::four_digits))]
 fn listing_len(mode: Mode, input: &[u8]) -> usize
     requires { length input.now ≤ 4096 }
     ensures { result ≡ length (listing_in mode input.now) }
@@ -95,22 +93,23 @@ fn put_listing(mode: Mode, buf: &mut [u8], input: &[u8]) -> usize
 }
 
 // The listing of an input of at most 4,096 bytes, as a mode reads it. The room is counted first: a refused call leaves the buffer as it came.
-pub fn list_in(mode: Mode, input: &[u8], buf: &mut [u8]) -> Listed
+#[tactic(auto, unfolding(crate::specs::Answers::list_in, crate::specs::Answers::printed_of))]
+pub fn list_in(mode: Mode, input: &[u8], buf: &mut [u8]) -> Result<usize, Refusal>
     ensures { Printed (listing_in mode input.now) buf.old
         (list_in mode input.now (length buf.old))
         result buf.new }
 {
     if input.len() > INPUT_LIMIT {
-        return Listed::Refused(Refusal::InputTooLong);
+        return Err(Refusal::InputTooLong);
     }
     if buf.len() < listing_len(mode, input) {
-        return Listed::Refused(Refusal::NoRoom);
+        return Err(Refusal::NoRoom);
     }
-    Listed::Text(put_listing(mode, buf, input))
+    Ok(put_listing(mode, buf, input))
 }
 
 // Document 01's listing.
-pub fn list(input: &[u8], buf: &mut [u8]) -> Listed
+pub fn list(input: &[u8], buf: &mut [u8]) -> Result<usize, Refusal>
     ensures { Printed (listing_of input.now) buf.old
         (list_of input.now (length buf.old))
         result buf.new }
@@ -118,17 +117,19 @@ pub fn list(input: &[u8], buf: &mut [u8]) -> Listed
     list_in(Mode::Default, input, buf)
 }
 
-fn put_refused(buf: &mut [u8]) -> Listed
+#[tactic(auto, unfolding(crate::specs::Answers::printed_of))]
+fn put_refused(buf: &mut [u8]) -> Result<usize, Refusal>
     ensures { Printed refused_line buf.old (printed_of refused_line (length buf.old)) result buf.new }
 {
     if buf.len() < 11 {
-        return Listed::Refused(Refusal::NoRoom);
+        return Err(Refusal::NoRoom);
     }
-    Listed::Text(text::put_bytes(buf, 0, b"refused=22\n"))
+    Ok(text::put_bytes(buf, 0, b"refused=22\n"))
 }
 
 // All that the lister prints for an input, as a mode reads it: its listing, or the one line of refusal 22.
-pub fn output_in(mode: Mode, input: &[u8], buf: &mut [u8]) -> Listed
+#[tactic(auto, using(crate::proofs::AnswerLaws::list_printed), unfolding(crate::specs::Listing::output_in))]
+pub fn output_in(mode: Mode, input: &[u8], buf: &mut [u8]) -> Result<usize, Refusal>
     ensures { Printed (output_in mode input.now) buf.old
         (printed_of (output_in mode input.now) (length buf.old))
         result buf.new }
@@ -140,7 +141,7 @@ pub fn output_in(mode: Mode, input: &[u8], buf: &mut [u8]) -> Listed
 }
 
 // Document 01's.
-pub fn output(input: &[u8], buf: &mut [u8]) -> Listed
+pub fn output(input: &[u8], buf: &mut [u8]) -> Result<usize, Refusal>
     ensures { Printed (output_of input.now) buf.old
         (printed_of (output_of input.now) (length buf.old))
         result buf.new }

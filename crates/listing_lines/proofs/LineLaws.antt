@@ -1,43 +1,16 @@
 -- Laws of a line: its pieces placed one behind the other, and how long it is.
+use Rattle.std.proofs.Common.{Some, ℕ}
 use mathlib.Core.Path.{◌≡◌}
-use mathlib.Core.List.{List, ◌++◌}
 use Prim.Native.Nat.{ℕ, ◌+◌, ◌≤◌, ◌<◌}
 use native.Mathlib.Omega.{arith}
 use lib.ListN.{length, length-append}
 use Rattle.telegram.specs.Stream.{Ending}
 use Rattle.text.specs.Decimal.{decimal_of}
-use Rattle.text.specs.Placed.{Placed}
-use Rattle.text.specs.Quoted.{bytes_of}
 use Rattle.text.proofs.DecimalLaws.{decimal_length}
-use Rattle.text.proofs.PlacedLaws.{then}
-use Rattle.listing_lines.specs.declared.line.End.{End}
-use Rattle.listing_lines.specs.declared.line.End.TheVariants.{Refused}
-use Rattle.listing_lines.specs.Lines.{shown_end}
-use Rattle.listing_lines.specs.declared.line.Figure.{Figure}
-use Rattle.listing_lines.specs.declared.line.Figure.TheVariants.{Number, Absent}
 use Rattle.listing_lines.specs.declared.line.Kind.{Kind}
 use Rattle.listing_lines.specs.declared.line.Kind.TheVariants.{Ack, Token, Data}
 use Rattle.listing_lines.specs.declared.line.Line.{Line}
 use Rattle.listing_lines.specs.Lines.{figure_of, kind_field, place_of, header_of, content_of, line_of, end_name, end_of}
-
--- ---- pieces placed
-
--- bytes that were placed are those that are asked for
-pub placed_as : {before after p q : List ℕ} {to next : ℕ} → q ≡ p → Placed before to p next after → Placed before to q next after
-placed_as e f = rw e f
-
--- a name, then its figure
-module _ {b₀ b₁ b₂ name : List ℕ} {to n₁ n₂ : ℕ} {figure : Figure} (named : Placed b₀ to name n₁ b₁) where
-  pub figure_number : {n : ℕ} → figure ≡ Number n → Placed b₁ n₁ (decimal_of n) n₂ b₂ → Placed b₀ to (name ++ figure_of figure) n₂ b₂
-  figure_number e f = rw e (then named f)
-
-  pub figure_absent : figure ≡ Absent → Placed b₁ n₁ (bytes_of "-") n₂ b₂ → Placed b₀ to (name ++ figure_of figure) n₂ b₂
-  figure_absent e f = rw e (then named f)
-
--- a refusal's number, as it was widened
-pub end_refused : {before after : List ℕ} {to next k n : ℕ} {end : End} → end ≡ Refused k → n ≡ k
-    → Placed before to (bytes_of "end=refused-" ++ decimal_of n) next after → Placed before to (end_name (shown_end end)) next after
-end_refused e w f = rw (e, ← w) f
 
 -- ---- lengths
 
@@ -54,7 +27,7 @@ kind_length Ack = omega arith
 kind_length Token = omega arith
 kind_length Data = omega arith
 
-pub figure_length : (n : ℕ) → n < 1000 → length (figure_of (Number n)) ≤ 3
+pub figure_length : (n : ℕ) → n < 1000 → length (figure_of (Some n)) ≤ 3
 figure_length n h = decimal_length 2 n (omega arith)
 
 pub four_digits : (n : ℕ) → n < 10000 → length (decimal_of n) ≤ 4

@@ -1,13 +1,11 @@
 -- Document 01, "The lister": a line of the text, from its figures to its bytes. Read `line_of` and `end_of`, which `item_text` cites. Each field stands in brackets of its
 -- own.
-use Rattle.std.specs.Prelude.{List, ◌++◌, ℕ}
+use Rattle.std.specs.Prelude.{List, ◌++◌, ℕ, None, Option, Some}
 use Rattle.telegram.specs.Stream.{Ending, done, incomplete, refused}
 use Rattle.text.specs.Decimal.{decimal_of}
 use Rattle.text.specs.Quoted.{bytes_of}
 use Rattle.listing_lines.specs.declared.line.End.{End}
 use Rattle.listing_lines.specs.declared.line.End.TheVariants.{Done, Incomplete, Refused}
-use Rattle.listing_lines.specs.declared.line.Figure.{Figure}
-use Rattle.listing_lines.specs.declared.line.Figure.TheVariants.{Number, Absent}
 use Rattle.listing_lines.specs.declared.line.Item.{Item}
 use Rattle.listing_lines.specs.declared.line.Item.TheVariants.{Telegram, Last}
 use Rattle.listing_lines.specs.declared.line.Kind.{Kind}
@@ -15,9 +13,9 @@ use Rattle.listing_lines.specs.declared.line.Kind.TheVariants.{Ack, Token, Data}
 use Rattle.listing_lines.specs.declared.line.Line.{Line}
 
 -- "Numbers decimal; … `-` absent"
-abbrev pub figure_of : Figure → List ℕ
-figure_of (Number n) = decimal_of n
-figure_of Absent = bytes_of "-"
+abbrev pub figure_of : Option ℕ → List ℕ
+figure_of (Some n) = decimal_of n
+figure_of None = bytes_of "-"
 
 -- the kinds: ack, token, data
 abbrev pub kind_field : Kind → List ℕ

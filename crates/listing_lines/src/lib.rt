@@ -4,4 +4,4 @@
 
 pub mod line;
 
-pub use line::{End, Figure, Item, Kind, Line, put_item};
+pub use line::{End, Item, Kind, Line, put_item};

@@ -4,14 +4,7 @@ ghost use Rattle.text.specs.Placed.{Placed};
 ghost use Rattle.text.specs.Decimal.{decimal_of};
 ghost use Rattle.listing_lines.specs.Lines.{figure_of, kind_field, place_of, header_of, content_of, line_of, end_name, end_of, shown_end, item_text};
 
-// A figure of a line, `-` where it is absent.
-#[derive(Clone, Copy)]
-pub enum Figure {
-    Number(usize),
-    Absent,
-}
-
-#[derive(Clone, Copy)]
+#[derive(Clone, Copy, Debug, PartialEq, Eq)]
 pub enum Kind {
     Ack,
     Token,
@@ -19,21 +12,22 @@ pub enum Kind {
 }
 
 // What the line of a telegram says.
-#[derive(Clone, Copy)]
+#[derive(Clone, Copy, Debug, PartialEq, Eq)]
 pub struct Line {
     pub at: usize,
     pub kind: Kind,
     pub len: usize,
-    pub da: Figure,
-    pub sa: Figure,
-    pub dsap: Figure,
-    pub ssap: Figure,
-    pub fc: Figure,
-    pub pdu: Figure,
+    pub da: Option<usize>,
+    pub sa: Option<usize>,
+    pub dsap: Option<usize>,
+    pub ssap: Option<usize>,
+    pub fc: Option<usize>,
+    pub pdu: Option<usize>,
 }
 
 // Why the listing ends; a refusal by its number.
-#[derive(Clone, Copy)]
+// (The refusals of either list have only their number in common, as in `DeserializedIn`.)
+#[derive(Clone, Copy, Debug, PartialEq, Eq)]
 pub enum End {
     Done,
     Incomplete,
@@ -41,7 +35,7 @@ pub enum End {
 }
 
 // What is listed at a place of the input: the line of the telegram that starts there, or that the listing ends.
-#[derive(Clone, Copy)]
+#[derive(Clone, Copy, Debug, PartialEq, Eq)]
 pub enum Item {
     Telegram(Line),
     Last(End, usize),
@@ -54,13 +48,13 @@ fn put_number(buf: &mut [u8], to: usize, name: &[u8], n: usize) -> usize
     text::put_decimal(buf, value, n)
 }
 
-fn put_figure(buf: &mut [u8], to: usize, name: &[u8], figure: Figure) -> usize
+fn put_figure(buf: &mut [u8], to: usize, name: &[u8], figure: Option<usize>) -> usize
     ensures { Placed buf.old to (name.now ++ figure_of figure) result buf.new }
 {
     let value = text::put_bytes(buf, to, name);
     match figure {
-        Figure::Number(n) => text::put_decimal(buf, value, n),
-        Figure::Absent => text::put_byte(buf, value, b'-'),
+        Some(n) => text::put_decimal(buf, value, n),
+        None => text::put_byte(buf, value, b'-'),
     }
 }
 
@@ -77,32 +71,25 @@ fn put_kind(buf: &mut [u8], to: usize, kind: Kind) -> usize
 fn put_place(buf: &mut [u8], to: usize, line: Line) -> usize
     ensures { Placed buf.old to (place_of line) result buf.new }
 {
-    let kind = line.kind;
     let kind_to = put_number(buf, to, b"at=", line.at);
-    let len_to = put_kind(buf, kind_to, kind);
+    let len_to = put_kind(buf, kind_to, line.kind);
     put_number(buf, len_to, b" len=", line.len)
 }
 
 fn put_header(buf: &mut [u8], to: usize, line: Line) -> usize
     ensures { Placed buf.old to (header_of line) result buf.new }
 {
-    let da = line.da;
-    let sa = line.sa;
-    let dsap = line.dsap;
-    let ssap = line.ssap;
-    let sa_to = put_figure(buf, to, b" da=", da);
-    let dsap_to = put_figure(buf, sa_to, b" sa=", sa);
-    let ssap_to = put_figure(buf, dsap_to, b" dsap=", dsap);
-    put_figure(buf, ssap_to, b" ssap=", ssap)
+    let sa_to = put_figure(buf, to, b" da=", line.da);
+    let dsap_to = put_figure(buf, sa_to, b" sa=", line.sa);
+    let ssap_to = put_figure(buf, dsap_to, b" dsap=", line.dsap);
+    put_figure(buf, ssap_to, b" ssap=", line.ssap)
 }
 
 fn put_content(buf: &mut [u8], to: usize, line: Line) -> usize
     ensures { Placed buf.old to (content_of line) result buf.new }
 {
-    let fc = line.fc;
-    let pdu = line.pdu;
-    let pdu_to = put_figure(buf, to, b" fc=", fc);
-    let end = put_figure(buf, pdu_to, b" pdu=", pdu);
+    let pdu_to = put_figure(buf, to, b" fc=", line.fc);
+    let end = put_figure(buf, pdu_to, b" pdu=", line.pdu);
     text::put_byte(buf, end, b'\n')
 }
 
@@ -120,15 +107,8 @@ fn put_end_name(buf: &mut [u8], to: usize, end: End) -> usize
     match end {
         End::Done => text::put_bytes(buf, to, b"end=done"),
         End::Incomplete => text::put_bytes(buf, to, b"end=incomplete"),
-        End::Refused(number) => put_number(buf, to, b"end=refused-", wide(number)),
+        End::Refused(number) => put_number(buf, to, b"end=refused-", number as usize),
     }
-}
-
-// A byte as a number of another width.
-fn wide(byte: u8) -> usize
-    ensures { result ≡ byte }
-{
-    byte as usize
 }
 
 fn put_end(buf: &mut [u8], to: usize, end: End, at: usize) -> usize

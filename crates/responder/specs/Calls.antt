@@ -5,6 +5,7 @@ use Rattle.std.specs.Prelude.{ℕ, List, []}
 use Rattle.ground.specs.Refusals as refusals
 use Rattle.ground.specs.Refusals.{OrRefused, number_of}
 use Rattle.ground.specs.declared.part.Part.{Part}
+use Rattle.ground.specs.declared.returned.Returned.{Returned}
 use Rattle.link_telegrams.specs.Headers.{ok_header, reply_header}
 use Rattle.link_telegrams.specs.Heard.{request_heard_of}
 use Rattle.link_telegrams.specs.Turns.{Said, sent, tells, nothing, refused, Turn, saying, refusing, writes_of, with_room, with_lent}
@@ -12,12 +13,10 @@ use Rattle.responder.specs.Records.{blank_of}
 use Rattle.responder_row.specs.Rows.{WholeTurn, held_of, row_hears, row_answers, row_of}
 use Rattle.responder.specs.declared.answer.ResponderAnswer.{ResponderAnswer}
 use Rattle.responder.specs.declared.answer.ResponderAnswer.TheVariants as answer
-use Rattle.responder.specs.declared.answer.ResponderTurn.{ResponderTurn}
 use Rattle.responder_row.specs.declared.row.Row.{Row}
 use Rattle.responder_row.specs.declared.row.RowAction.{RowAction}
 use Rattle.responder_row.specs.declared.row.RowAction.TheVariants as action
 use Rattle.responder.specs.declared.head.ResponderHead.{ResponderHead}
-use Rattle.responder.specs.declared.head.ResponderHeadTurn.{ResponderHeadTurn}
 use Rattle.responder.specs.declared.state.Responder.{Responder}
 
 -- What a call answers, with document 01's number. The application is told an order: it is handed up "as part of the heard bytes".
@@ -27,8 +26,8 @@ shown_said (answer.HandUp order) = tells order
 shown_said answer.Nothing = nothing
 shown_said (answer.Refused refusal) = refused (number_of refusal)
 
-abbrev pub shown_turn : ResponderTurn → List ℕ → Turn Responder Part
-shown_turn t buf = saying (shown_said t.answer) t.responder buf
+abbrev pub shown_turn : Returned ResponderAnswer Responder → List ℕ → Turn Responder Part
+shown_turn t buf = saying (shown_said t.answer) t.after buf
 
 -- the record goes on with this row
 abbrev pub with_row : Responder → Row → Responder
@@ -78,8 +77,8 @@ abbrev pub whole_of : ResponderHead → List ℕ → Responder
 whole_of head held = record { link = head.link; row = row_of head.row held }
 
 -- what a call on the parts answers, with the lent bytes and the buffer at its end
-abbrev pub shown_on : ResponderHeadTurn → List ℕ → List ℕ → Turn Responder Part
-shown_on t held buf = saying (shown_said t.answer) (whole_of t.head held) buf
+abbrev pub shown_on : Returned ResponderAnswer ResponderHead → List ℕ → List ℕ → Turn Responder Part
+shown_on t held buf = saying (shown_said t.answer) (whole_of t.after held) buf
 
 -- what the call by value answers of the whole, where enough is lent
 abbrev pub hear_on : ResponderHead → List ℕ → List ℕ → List ℕ → Turn Responder Part

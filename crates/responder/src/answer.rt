@@ -1,8 +1,8 @@
-use crate::state::Responder;
 use ground::{Part, Refusal};
 
 // What a call says.
-#[derive(Clone, Copy)]
+// (No `Result`: a refusal is one of the things that document 01 lets a call say, and none of the others is its one success.)
+#[derive(Clone, Copy, Debug, PartialEq, Eq)]
 pub enum ResponderAnswer {
     // A telegram of so many bytes stands at the front of the buffer.
     Sent(usize),
@@ -10,10 +10,4 @@ pub enum ResponderAnswer {
     HandUp(Part),
     Nothing,
     Refused(Refusal),
-}
-
-#[derive(Clone, Copy)]
-pub struct ResponderTurn {
-    pub answer: ResponderAnswer,
-    pub responder: Responder,
 }

@@ -7,6 +7,6 @@ pub mod head;
 mod moves;
 pub mod state;
 
-pub use answer::{ResponderAnswer, ResponderTurn};
-pub use head::{ResponderHead, ResponderHeadTurn};
-pub use state::{Responder, ResponderMade};
+pub use answer::ResponderAnswer;
+pub use head::ResponderHead;
+pub use state::Responder;

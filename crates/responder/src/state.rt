@@ -1,9 +1,9 @@
 // The record of a responder, how one is made, and what may be asked of it. Promises: `specs/Records.antt`.
-ghost use Rattle.std.specs.Prelude.{◌≡◌};
+ghost use Rattle.std.specs.Prelude.{◌≡◌, Err};
 ghost use Rattle.link_rules.specs.Rules.{no_link};
 ghost use Rattle.responder.specs.Records.{blank_of, shown_made, made_of};
 
-use ground::{Address, Answer, Refusal};
+use ground::{Address, Refusal, Returned};
 use link_rules::{Link, wrong_addresses};
 use responder_row::Row;
 
@@ -13,44 +13,40 @@ pub struct Responder {
     pub(crate) row: Row,
 }
 
-#[derive(Clone, Copy)]
-pub struct ResponderMade {
-    pub answer: Answer,
-    pub responder: Responder,
-}
-
 pub(crate) fn blank(link: Link) -> Responder
     ensures { result ≡ blank_of link }
 {
-    let row = Row::blank();
-    Responder { link, row }
+    Responder {
+        link,
+        row: Row::blank(),
+    }
 }
 
 // What stands beside a refusal to make a link: its addresses are no station's, so that it writes nothing and hears nothing.
-fn not_made() -> ResponderMade
-    ensures { result ≡ record { answer = Answer.Refused Refusal.LinkAddresses; responder = blank_of no_link } }
+fn not_made() -> Returned<Result<(), Refusal>, Responder>
+    ensures { result ≡ record { answer = Err Refusal.LinkAddresses; after = blank_of no_link } }
 {
-    let answer = Answer::Refused(Refusal::LinkAddresses);
-    let none = Link {
-        own: Address(255),
-        peer: Address(255),
-    };
-    let responder = blank(none);
-    ResponderMade { answer, responder }
+    Returned {
+        answer: Err(Refusal::LinkAddresses),
+        after: blank(Link {
+            own: Address(255),
+            peer: Address(255),
+        }),
+    }
 }
 
 impl Responder {
     // Refusal 18.
-    pub fn new(link: Link) -> ResponderMade
+    #[tactic(auto, unfolding(crate::specs::Records::made_of))]
+    pub fn new(link: Link) -> Returned<Result<(), Refusal>, Responder>
         ensures { shown_made result ≡ made_of link }
     {
         if wrong_addresses(link) {
             return not_made();
         }
-        let responder = blank(link);
-        ResponderMade {
-            answer: Answer::Done,
-            responder,
+        Returned {
+            answer: Ok(()),
+            after: blank(link),
         }
     }
 
@@ -65,15 +61,13 @@ impl Responder {
     pub fn own(self) -> Address
         ensures { result ≡ self.link.own }
     {
-        let link = self.link;
-        link.own
+        self.link.own
     }
 
     pub fn peer(self) -> Address
         ensures { result ≡ self.link.peer }
     {
-        let link = self.link;
-        link.peer
+        self.link.peer
     }
 
     // What it remembers of its initiator.

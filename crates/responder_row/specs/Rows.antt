@@ -1,26 +1,22 @@
 -- Document 01, "Responder": what it remembers of one initiator, and what a heard telegram, an answer and a restart do to that.
 -- Read `row_hears`, `row_answers`, and for a row in two parts `row_of`, `shown_heard`, `shown_answered`.
-use Rattle.std.specs.Prelude.{ℕ, Bool, true, false, List, ◌++◌, ltb, length, take, drop, replicate}
+use Rattle.std.specs.Prelude.{ℕ, Bool, true, false, List, ◌++◌, ltb, length, take, drop, replicate, Err, None, Ok, Option, Result, Some}
 use Rattle.ground.specs.Pick.{if}
 use Rattle.ground.specs.Refusals.{OrRefused, gives, refused, number_of}
 use Rattle.ground.specs.declared.part.Part.{Part}
-use Rattle.ground.specs.declared.refusal.Answer.{Answer}
-use Rattle.ground.specs.declared.refusal.Answer.TheVariants as answer
 use Rattle.link_rules.specs.Rules.{longest, wrong_length}
 use Rattle.link_telegrams.specs.declared.headers.Bit.{Bit}
 use Rattle.link_telegrams.specs.declared.headers.Bit.TheVariants.{Low, High}
 use Rattle.link_telegrams.specs.declared.heard.RequestHeard.{RequestHeard}
 use Rattle.link_telegrams.specs.declared.heard.RequestHeard.TheVariants as heard
-use Rattle.responder_row.specs.declared.head.RowAnswered.{RowAnswered}
 use Rattle.responder_row.specs.declared.head.RowHead.{RowHead}
-use Rattle.responder_row.specs.declared.head.RowTurn.{RowTurn}
 use Rattle.responder_row.specs.declared.row.Row.{Row}
 use Rattle.responder_row.specs.declared.row.RowAction.{RowAction}
 use Rattle.responder_row.specs.declared.row.RowAction.TheVariants as action
 use Rattle.responder_row.specs.declared.row.RowState.{RowState}
 use Rattle.responder_row.specs.declared.row.RowState.TheVariants.{Blank, Opened, Owes, Holds}
-use Rattle.responder_row.specs.declared.row.StoredBit.{StoredBit}
-use Rattle.responder_row.specs.declared.row.StoredBit.TheVariants as stored
+use Rattle.ground.specs.declared.refusal.Refusal.{Refusal}
+use Rattle.ground.specs.declared.returned.Returned.{Returned}
 
 -- "Restart forgets all": a row that remembers nothing
 abbrev pub blank_row : Row
@@ -31,11 +27,11 @@ abbrev pub held_of : Row → List ℕ
 held_of row = take row.len row.held
 
 -- the stored bit: an opening stores "bit 1", an order its own
-abbrev pub stored_bit : RowState → StoredBit
-stored_bit Blank = stored.Nothing
-stored_bit Opened = stored.Is High
-stored_bit (Owes b) = stored.Is b
-stored_bit (Holds b) = stored.Is b
+abbrev pub stored_bit : RowState → Option Bit
+stored_bit Blank = None
+stored_bit Opened = Some High
+stored_bit (Owes b) = Some b
+stored_bit (Holds b) = Some b
 
 -- is a reply owed
 abbrev pub owes_reply : RowState → Bool
@@ -93,9 +89,9 @@ other_on b q row =
     if (wrong_length q.len) (ignoring row) (record { action = action.HandUp q; row = dropping row (Owes b) })
 
 -- "FCV with no stored bit: nothing. Same bit: … Other bit: …"
-abbrev pub order_on : StoredBit → Bit → Part → Row → WholeTurn
-order_on stored.Nothing b q row = ignoring row
-order_on (stored.Is c) b q row = if (same_bit c b) (again_on row.state row) (other_on b q row)
+abbrev pub order_on : Option Bit → Bit → Part → Row → WholeTurn
+order_on None b q row = ignoring row
+order_on (Some c) b q row = if (same_bit c b) (again_on row.state row) (other_on b q row)
 
 -- "First and empty: store bit 1, drop an owed or held reply, answer. … All else: nothing"
 unfoldable pub row_hears : RequestHeard → Row → WholeTurn
@@ -119,9 +115,9 @@ row_after (gives next) row = next
 row_after (refused n) row = row
 
 -- what an answer to a row gives, with document 01's number
-abbrev pub shown_in : Answer → Row → OrRefused Row
-shown_in answer.Done row = gives row
-shown_in (answer.Refused refusal) row = refused (number_of refusal)
+abbrev pub shown_in : Result Unit Refusal → Row → OrRefused Row
+shown_in (Ok tt) row = gives row
+shown_in (Err refusal) row = refused (number_of refusal)
 
 -- ---- a row in two parts: its head by value, and the held bytes where they are lent
 
@@ -129,17 +125,17 @@ abbrev pub row_of : RowHead → List ℕ → Row
 row_of head held = record { state = head.state; held = held; len = head.len }
 
 -- hearing leaves the held bytes
-abbrev pub shown_heard : RowTurn → List ℕ → WholeTurn
-shown_heard t held = record { action = t.action; row = row_of t.head held }
+abbrev pub shown_heard : Returned RowAction RowHead → List ℕ → WholeTurn
+shown_heard t held = record { action = t.answer; row = row_of t.after held }
 
 -- the held bytes after an answer: where it was taken, it stands at their front
-abbrev pub held_after : Answer → List ℕ → List ℕ → List ℕ
-held_after answer.Done held p = p ++ drop (length p) held
-held_after (answer.Refused refusal) held p = held
+abbrev pub held_after : Result Unit Refusal → List ℕ → List ℕ → List ℕ
+held_after (Ok tt) held p = p ++ drop (length p) held
+held_after (Err refusal) held p = held
 
 -- the row that comes back of an answer, and what that gives, as above
-abbrev pub row_answered : RowAnswered → List ℕ → List ℕ → Row
-row_answered a held p = row_of a.head (held_after a.answer held p)
+abbrev pub row_answered : Returned (Result Unit Refusal) RowHead → List ℕ → List ℕ → Row
+row_answered a held p = row_of a.after (held_after a.answer held p)
 
-abbrev pub shown_answered : RowAnswered → List ℕ → List ℕ → OrRefused Row
+abbrev pub shown_answered : Returned (Result Unit Refusal) RowHead → List ℕ → List ℕ → OrRefused Row
 shown_answered a held p = shown_in a.answer (row_answered a held p)

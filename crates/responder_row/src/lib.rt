@@ -4,5 +4,5 @@
 pub mod head;
 pub mod row;
 
-pub use head::{RowAnswered, RowHead, RowTurn};
-pub use row::{Row, RowAction, RowState, StoredBit};
+pub use head::RowHead;
+pub use row::{Row, RowAction, RowState};

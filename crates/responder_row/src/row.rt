@@ -9,7 +9,7 @@ use link_rules::LONGEST;
 use link_telegrams::Bit;
 
 // What a responder remembers of one initiator.
-#[derive(Clone, Copy)]
+#[derive(Clone, Copy, Debug, PartialEq, Eq)]
 pub enum RowState {
     // No stored bit.
     Blank,
@@ -24,20 +24,15 @@ pub enum RowState {
 #[derive(Clone, Copy)]
 pub struct Row {
     pub(crate) state: RowState,
-    // The held reply is the first `len` bytes. What drops it sets `len` to 0 and leaves the array.
+    // The held reply is the first `len` bytes. What drops it sets `len` to 0 and leaves the array. (No `Vec`: the library has no heap, and
+    // the row is copied.)
     pub(crate) held: [u8; 246],
     pub(crate) len: usize,
 }
 
-// The stored bit of a row: document 01's bit 1 is High.
-#[derive(Clone, Copy)]
-pub enum StoredBit {
-    Is(Bit),
-    Nothing,
-}
-
 // What a heard telegram asks of the responder: to write the opening's reply or the held one, to hand an order up, or nothing.
-#[derive(Clone, Copy)]
+// (No `Option` and no closures: the row's promise names each action.)
+#[derive(Clone, Copy, Debug, PartialEq, Eq)]
 pub enum RowAction {
     WriteOk,
     WriteHeld,
@@ -46,37 +41,26 @@ pub enum RowAction {
 }
 
 impl RowState {
-    pub fn stored_bit(self) -> StoredBit
+    pub fn stored_bit(self) -> Option<Bit>
         ensures { result ≡ stored_bit self }
     {
         match self {
-            RowState::Blank => StoredBit::Nothing,
-            RowState::Opened => StoredBit::Is(Bit::High),
-            RowState::Owes(bit) => StoredBit::Is(bit),
-            RowState::Holds(bit) => StoredBit::Is(bit),
+            RowState::Blank => None,
+            RowState::Opened => Some(Bit::High),
+            RowState::Owes(bit) | RowState::Holds(bit) => Some(bit),
         }
     }
 
     pub fn owes_reply(self) -> bool
         ensures { result ≡ owes_reply self }
     {
-        match self {
-            RowState::Blank => false,
-            RowState::Opened => false,
-            RowState::Owes(_) => true,
-            RowState::Holds(_) => false,
-        }
+        matches!(self, RowState::Owes(_))
     }
 
     pub fn holds_reply(self) -> bool
         ensures { result ≡ holds_reply self }
     {
-        match self {
-            RowState::Blank => false,
-            RowState::Opened => false,
-            RowState::Owes(_) => false,
-            RowState::Holds(_) => true,
-        }
+        matches!(self, RowState::Holds(_))
     }
 }
 
@@ -84,10 +68,9 @@ impl Row {
     pub fn blank() -> Row
         ensures { result ≡ blank_row }
     {
-        let held = [0u8; 246];
         Row {
             state: RowState::Blank,
-            held,
+            held: [0; 246],
             len: 0,
         }
     }
@@ -110,9 +93,8 @@ impl Row {
     pub fn head(self) -> RowHead
         ensures { result ≡ record { state = self.state; len = self.len } }
     {
-        let state = self.state;
         RowHead {
-            state,
+            state: self.state,
             len: self.len,
         }
     }
@@ -121,8 +103,7 @@ impl Row {
     pub fn held_len(self) -> usize
         ensures { result ≡ length (held_of self) }
     {
-        let head = self.head();
-        head.held_len(LONGEST)
+        self.head().held_len(LONGEST)
     }
 
     // The held reply is the first `held_len` bytes of this.

@@ -2,20 +2,24 @@
 // as a bus driver changes it, through the calls that it is lent to. What is checked is proved from the promises of the calls alone.
 #![tactic(auto)]
 
-ghost use Rattle.std.specs.Prelude.{◌≡◌};
+ghost use Rattle.std.specs.Prelude.{◌≡◌, map};
 ghost use Rattle.ground.specs.Refusals.{shown};
-ghost use Rattle.token_ring.specs.Rules.{claimed, station_answer, witnessed};
-ghost use Rattle.ring_demo.specs.Played.{played, played_on};
+ghost use Rattle.token_ring.specs.Passes.{after};
+ghost use Rattle.token_ring.specs.Rules.{claimed, station_answer};
+ghost use Rattle.ring_demo.specs.Played.{pass, played, played_on};
 
-use ground::{Address, Answer};
+use ground::{Address, Refusal, answer_number};
 use std::io;
-use token_ring::{Found, TokenRing};
+use token_ring::TokenRing;
 
-// The list is lent to the driver's call and found changed.
-fn witness(mut ring: TokenRing, sa: Address, da: Address) -> TokenRing
-    ensures { result ≡ witnessed sa.0 da.0 ring }
+// The list is lent to the driver's call, pass by pass, and found changed.
+#[tactic(auto, using(crate::proofs::PlayedLaws::one_pass_more))]
+fn heard(mut ring: TokenRing, passes: &[(u8, u8)]) -> TokenRing
+    ensures { result ≡ after (map pass passes.now) ring }
 {
-    ring_driver::witness_token_pass(&mut ring, sa, da);
+    for &(sa, da) in passes {
+        ring_driver::witness_token_pass(&mut ring, Address(sa), Address(da));
+    }
     ring
 }
 
@@ -30,42 +34,37 @@ fn claim(mut ring: TokenRing) -> TokenRing
 fn discovered() -> TokenRing
     ensures { result ≡ played }
 {
-    let made = TokenRing::new(Address(7));
-    let mut ring = made.ring;
-    ring = witness(ring, Address(9), Address(2));
-    ring = witness(ring, Address(2), Address(5));
-    ring = witness(ring, Address(5), Address(9));
-    witness(ring, Address(9), Address(2))
+    heard(
+        TokenRing::new(Address(7)).after,
+        &[(9, 2), (2, 5), (5, 9), (9, 2)],
+    )
 }
 
 // Then 2-5, 5-9, 9-2.
-fn verified(mut ring: TokenRing) -> TokenRing
+fn verified(ring: TokenRing) -> TokenRing
     requires { ring ≡ played }
     ensures { result ≡ played_on }
 {
-    ring = witness(ring, Address(2), Address(5));
-    ring = witness(ring, Address(5), Address(9));
-    witness(ring, Address(9), Address(2))
+    heard(ring, &[(2, 5), (5, 9), (9, 2)])
 }
 
+#[tactic(auto, using(crate::proofs::PlayedLaws::next_is, crate::proofs::PlayedLaws::previous_is, crate::proofs::PlayedLaws::not_ready))]
 fn check_neighbours(ring: TokenRing)
     requires { ring ≡ played }
 {
-    let next = ring.next_station();
-    check::expect(next.0 == 9);
-    let previous = ring.previous_station();
-    check::expect(previous.0 == 5);
+    check::expect(ring.next_station() == Address(9));
+    check::expect(ring.previous_station() == Address(5));
     check::expect(!ring.ready_for_ring());
 }
 
 // Of a call that may refuse, the answer alone is asked for; the list that was lent is dropped.
-fn remove(mut ring: TokenRing, address: Address) -> Answer
+fn remove(mut ring: TokenRing, address: Address) -> Result<(), Refusal>
     ensures { shown result ≡ station_answer address.0 }
 {
     ring_driver::remove_station(&mut ring, address)
 }
 
-fn set_next(mut ring: TokenRing, address: Address) -> Answer
+fn set_next(mut ring: TokenRing, address: Address) -> Result<(), Refusal>
     ensures { shown result ≡ station_answer address.0 }
 {
     ring_driver::set_next_station(&mut ring, address)
@@ -73,36 +72,27 @@ fn set_next(mut ring: TokenRing, address: Address) -> Answer
 
 fn check_refusals(ring: TokenRing) {
     let removed = remove(ring, Address(126));
-    check::expect(removed.number() == 11);
+    check::expect(answer_number(removed) == 11);
     let set = set_next(ring, Address(126));
-    check::expect(set.number() == 11);
+    check::expect(answer_number(set) == 11);
 }
 
+#[tactic(auto, unfolding(token_ring::specs::Rules::in_phase))]
 fn check_claim(ring: TokenRing) {
-    let valid = claim(ring);
-    check::expect(valid.ready_for_ring());
-}
-
-fn print_station(rt: &impl Print, address: u8) -> io::Result<()> {
-    println!(rt; "{address}")
+    check::expect(claim(ring).ready_for_ring());
 }
 
 fn print_stations(rt: &impl Print, ring: TokenRing) -> io::Result<()> {
-    let mut from: u8 = 0;
-    loop {
-        let found = ring.first_active_from(Address(from));
-        let Found::Station(station) = found else {
-            return Ok(());
-        };
+    let mut from = 0;
+    while let Some(station) = ring.first_active_from(Address(from)) {
         let at = station.0;
-        print_station(rt, at)?;
-        if 125 < at {
-            return Ok(());
-        }
+        println!(rt; "{at}")?;
         from = at + 1;
     }
+    Ok(())
 }
 
+#[tactic(auto, using(crate::proofs::PlayedLaws::ready))]
 fn main(rt: HostRuntime) -> io::Result<()> {
     let ring = discovered();
     check_neighbours(ring);

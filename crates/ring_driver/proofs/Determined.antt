@@ -18,10 +18,10 @@ abbrev claim : Promise claim_token.ended
 claim κs a x e = e.0.now ≡ claimed a.0.now
 
 abbrev set_next : Promise set_next_station.ended
-set_next κs a x e = Gives (station_answer a.1.0.0) (next_set a.1.0.0 a.0.now) (record { answer = x; ring = e.0.now })
+set_next κs a x e = Gives (station_answer a.1.0.0) (next_set a.1.0.0 a.0.now) (record { answer = x; after = e.0.now })
 
 abbrev remove : Promise remove_station.ended
-remove κs a x e = Gives (station_answer a.1.0.0) (removed a.1.0.0 a.0.now) (record { answer = x; ring = e.0.now })
+remove κs a x e = Gives (station_answer a.1.0.0) (removed a.1.0.0 a.0.now) (record { answer = x; after = e.0.now })
 
 pub record Calls : Type 2 where
   pub witness_says : Says witness_token_pass.ended (λ M 𝓤 𝓛. witness_token_pass.clauses 𝓛) witness
@@ -41,7 +41,7 @@ determined =
       claim_says = record { says = λ M 𝓤 𝓛 mem run κs a g x e. refl };
       claim_token = left (λ κs x y. refl) (λ κs a u v p i. (p i, tt));
       set_next_says = record { says = λ M 𝓤 𝓛 mem run κs a g x e. refl };
-      set_next_station = record { one = λ κs a m n. let both = gives_one m.meets n.meets in (λ i. (both i).answer, λ i. ((both i).ring, (tt, tt))) };
+      set_next_station = record { one = λ κs a m n. let both = gives_one m.meets n.meets in (λ i. (both i).answer, λ i. ((both i).after, (tt, tt))) };
       remove_says = record { says = λ M 𝓤 𝓛 mem run κs a g x e. refl };
-      remove_station = record { one = λ κs a m n. let both = gives_one m.meets n.meets in (λ i. (both i).answer, λ i. ((both i).ring, (tt, tt))) };
+      remove_station = record { one = λ κs a m n. let both = gives_one m.meets n.meets in (λ i. (both i).answer, λ i. ((both i).after, (tt, tt))) };
     }

@@ -7,26 +7,22 @@ mod rounds;
 mod start;
 mod telegrams;
 
-use crate::rounds::{put_events, put_rounds};
-use crate::start::{put_parameters, put_ring, put_stations};
-use line_text::bytes::front;
-use line_text::printing::{Streams, print};
+use crate::telegrams::Capture;
+use std::alloc::AllocError;
 use std::io;
+use std::io::Print;
 
-// The capture at the front of the buffer; its length.
-fn put_segment(out: &mut [u8]) -> usize {
-    let stations = put_ring(out, 0);
-    let parameters = put_stations(out, stations);
-    let rounds = put_parameters(out, parameters);
-    let events = put_rounds(out, rounds, 0, 12);
-    let more = put_events(out, events);
-    put_rounds(out, more, 12, 24)
+fn put_segment(capture: &mut Capture) -> Result<(), AllocError> {
+    capture.ring()?;
+    capture.stations()?;
+    capture.parameters()?;
+    capture.rounds(0, 12)?;
+    capture.events()?;
+    capture.rounds(12, 24)
 }
 
 fn main(rt: HostRuntime) -> io::Result<()> {
-    let streams = Streams::new(rt.stdin(), rt.stdout(), rt.stderr());
-    let mut capture = [0u8; 4096];
-    let len = put_segment(&mut capture);
-    print(&streams, front(&capture, len));
-    streams.end()
+    let mut capture = Capture::new(rt.alloc());
+    put_segment(&mut capture)?;
+    rt.stdout().write_all(capture.bytes())
 }

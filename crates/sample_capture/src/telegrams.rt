@@ -1,65 +1,25 @@
-// One telegram each, laid down at a place; the answer is the place behind it. Stations are named sender first.
+// The capture, and one telegram each laid behind the others. Stations are named sender first.
 use codes::{FrameCountBit, FunctionCode, RequestType, ResponseState, ResponseStatus};
-use ground::{Address, Sap};
+use ground::{Address, Refusal, Sap};
 use line_text::bytes::front;
-use telegram::{DataTelegramHeader, SapOption};
+use std::alloc::{AllocError, Global};
+use telegram::DataTelegramHeader;
 use telegram_tx::{
-    TelegramTxResult, send_data_telegram, send_fdl_status_request, send_fdl_status_response,
+    TelegramTxResponse, send_data_telegram, send_fdl_status_request, send_fdl_status_response,
     send_short_confirmation, send_token_telegram,
 };
 
-// What the writer wrote. It refuses none of the telegrams here.
-fn put_written(out: &mut [u8], to: usize, res: TelegramTxResult, written: &[u8]) -> usize {
-    match res {
-        TelegramTxResult::Sent(response) => {
-            text::put_bytes(out, to, front(written, response.bytes_sent()))
-        }
-        TelegramTxResult::Refused(_) => to,
-    }
-}
-
-pub(crate) fn put_token(out: &mut [u8], to: usize, sa: u8, da: u8) -> usize {
-    let mut written = [0u8; 3];
-    let result = send_token_telegram(Address(da), Address(sa), &mut written);
-    put_written(out, to, result, &written)
-}
-
-pub(crate) fn put_confirmation(out: &mut [u8], to: usize) -> usize {
-    let mut written = [0u8; 1];
-    let result = send_short_confirmation(&mut written);
-    put_written(out, to, result, &written)
-}
-
-pub(crate) fn put_status_request(out: &mut [u8], to: usize, sa: u8, da: u8) -> usize {
-    let mut written = [0u8; 6];
-    let result = send_fdl_status_request(Address(da), Address(sa), &mut written);
-    put_written(out, to, result, &written)
-}
-
-pub(crate) fn put_status(out: &mut [u8], to: usize, sa: u8, da: u8, state: ResponseState) -> usize {
-    let mut written = [0u8; 6];
-    let result = send_fdl_status_response(
-        Address(da),
-        Address(sa),
-        state,
-        ResponseStatus::Ok,
-        &mut written,
-    );
-    put_written(out, to, result, &written)
-}
-
-pub(crate) fn put_data(out: &mut [u8], to: usize, header: DataTelegramHeader, pdu: &[u8]) -> usize {
-    let mut written = [0u8; 255];
-    let result = send_data_telegram(header, pdu, &mut written);
-    put_written(out, to, result, &written)
+#[derive(Drop)]
+pub(crate) struct Capture {
+    bytes: Vec<u8>,
 }
 
 fn plain_header(sa: u8, da: u8, fc: FunctionCode) -> DataTelegramHeader {
     DataTelegramHeader {
         da: Address(da),
         sa: Address(sa),
-        dsap: SapOption::None,
-        ssap: SapOption::None,
+        dsap: None,
+        ssap: None,
         fc,
     }
 }
@@ -68,8 +28,8 @@ fn sap_header(sa: u8, da: u8, ssap: u8, dsap: u8, fc: FunctionCode) -> DataTeleg
     DataTelegramHeader {
         da: Address(da),
         sa: Address(sa),
-        dsap: SapOption::Some(Sap(dsap)),
-        ssap: SapOption::Some(Sap(ssap)),
+        dsap: Some(Sap(dsap)),
+        ssap: Some(Sap(ssap)),
         fc,
     }
 }
@@ -78,50 +38,108 @@ fn data_low() -> FunctionCode {
     FunctionCode::new_response(ResponseState::Slave, ResponseStatus::DataLow)
 }
 
-// Cyclic data: outputs to a slave, and its inputs in reply.
-pub(crate) fn put_outputs(
-    out: &mut [u8],
-    to: usize,
-    sa: u8,
-    da: u8,
-    fcb: FrameCountBit,
-    pdu: &[u8],
-) -> usize {
-    put_data(
-        out,
-        to,
-        plain_header(sa, da, FunctionCode::new_srd_high(fcb)),
-        pdu,
-    )
-}
+impl Capture {
+    pub(crate) fn new(alloc: Global) -> Capture {
+        Capture {
+            bytes: Vec::new(alloc),
+        }
+    }
 
-pub(crate) fn put_inputs(out: &mut [u8], to: usize, sa: u8, da: u8, pdu: &[u8]) -> usize {
-    put_data(out, to, plain_header(sa, da, data_low()), pdu)
-}
+    pub(crate) fn bytes(&self) -> &[u8] {
+        self.bytes.as_slice()
+    }
 
-// A request of master 2 to one of a slave's services, from its SAP 62.
-pub(crate) fn put_service(
-    out: &mut [u8],
-    to: usize,
-    da: u8,
-    dsap: u8,
-    fcb: FrameCountBit,
-    pdu: &[u8],
-) -> usize {
-    let fc = FunctionCode::new_srd_high(fcb);
-    put_data(out, to, sap_header(2, da, 62, dsap, fc), pdu)
-}
+    // What a writer wrote. It refuses none of the telegrams here.
+    fn put(
+        &mut self,
+        written: Result<TelegramTxResponse, Refusal>,
+        buffer: &[u8],
+    ) -> Result<(), AllocError> {
+        if let Ok(response) = written {
+            let telegram = front(buffer, response.bytes_sent());
+            self.bytes.extend_from_slice(telegram)?;
+        }
+        Ok(())
+    }
 
-// A slave's diagnostics, SAP 60 to master 2's SAP 62.
-pub(crate) fn put_diagnostics(out: &mut [u8], to: usize, sa: u8, pdu: &[u8]) -> usize {
-    put_data(out, to, sap_header(sa, 2, 60, 62, data_low()), pdu)
-}
+    pub(crate) fn token(&mut self, sa: u8, da: u8) -> Result<(), AllocError> {
+        let mut buffer = [0; 3];
+        let written = send_token_telegram(Address(da), Address(sa), &mut buffer);
+        self.put(written, &buffer)
+    }
 
-// A global command to all stations, which nobody answers.
-pub(crate) fn put_global(out: &mut [u8], to: usize, pdu: &[u8]) -> usize {
-    let fc = FunctionCode::Request {
-        fcb: FrameCountBit::Inactive,
-        req: RequestType::SdnHigh,
-    };
-    put_data(out, to, sap_header(2, 127, 62, 58, fc), pdu)
+    pub(crate) fn confirmation(&mut self) -> Result<(), AllocError> {
+        let mut buffer = [0; 1];
+        let written = send_short_confirmation(&mut buffer);
+        self.put(written, &buffer)
+    }
+
+    pub(crate) fn status_request(&mut self, sa: u8, da: u8) -> Result<(), AllocError> {
+        let mut buffer = [0; 6];
+        let written = send_fdl_status_request(Address(da), Address(sa), &mut buffer);
+        self.put(written, &buffer)
+    }
+
+    pub(crate) fn status(
+        &mut self,
+        sa: u8,
+        da: u8,
+        state: ResponseState,
+    ) -> Result<(), AllocError> {
+        let mut buffer = [0; 6];
+        let ok = ResponseStatus::Ok;
+        let written = send_fdl_status_response(Address(da), Address(sa), state, ok, &mut buffer);
+        self.put(written, &buffer)
+    }
+
+    pub(crate) fn data(
+        &mut self,
+        header: DataTelegramHeader,
+        pdu: &[u8],
+    ) -> Result<(), AllocError> {
+        let mut buffer = [0; 255];
+        let written = send_data_telegram(header, pdu, &mut buffer);
+        self.put(written, &buffer)
+    }
+
+    // Cyclic data: outputs to a slave, and its inputs in reply.
+    pub(crate) fn outputs(
+        &mut self,
+        sa: u8,
+        da: u8,
+        fcb: FrameCountBit,
+        pdu: &[u8],
+    ) -> Result<(), AllocError> {
+        self.data(plain_header(sa, da, FunctionCode::new_srd_high(fcb)), pdu)
+    }
+
+    pub(crate) fn inputs(&mut self, sa: u8, da: u8, pdu: &[u8]) -> Result<(), AllocError> {
+        self.data(plain_header(sa, da, data_low()), pdu)
+    }
+
+    // A request of master 2 to one of a slave's services, from its SAP 62.
+    pub(crate) fn service(
+        &mut self,
+        da: u8,
+        dsap: u8,
+        fcb: FrameCountBit,
+        pdu: &[u8],
+    ) -> Result<(), AllocError> {
+        let fc = FunctionCode::new_srd_high(fcb);
+        self.data(sap_header(2, da, 62, dsap, fc), pdu)
+    }
+
+    // A slave's diagnostics, SAP 60 to master 2's SAP 62.
+    pub(crate) fn diagnostics(&mut self, sa: u8, pdu: &[u8]) -> Result<(), AllocError> {
+        self.data(sap_header(sa, 2, 60, 62, data_low()), pdu)
+    }
+
+    // A global command to all stations, which nobody answers.
+    pub(crate) fn global(&mut self, pdu: &[u8]) -> Result<(), AllocError> {
+        let fc = FunctionCode::Request {
+            fcb: FrameCountBit::Inactive,
+            req: RequestType::SdnHigh,
+        };
+        self.data(sap_header(2, 127, 62, 58, fc), pdu)
+    }
 }

@@ -4,65 +4,29 @@
 #![tactic(auto)]
 
 use codes::consts;
-use ground::Part;
+use ground::Address;
 use line_text::printing::{Streams, print, read_full};
 use std::io;
-use telegram::{AddressOption, Deserialized, Telegram};
+use telegram::{Deserialized, Telegram};
 
-const DRIVE: u8 = 12;
+const DRIVE: Address = Address(12);
 
-fn is_of_the_drive(telegram: Telegram) -> bool {
-    match telegram.source_address() {
-        AddressOption::Some(a) => a.0 == DRIVE,
-        AddressOption::None => false,
-    }
-}
-
-// A place too near to the end of the buffer leaves it as it is.
-fn clear_fourth(capture: &mut [u8], at: usize) {
-    if capture.len() < 4 {
+// Lets the telegram through that these bytes begin with.
+fn let_one_through(bytes: &mut [u8], telegram: Telegram) {
+    if telegram.source_address() != Some(DRIVE) {
         return;
     }
-    if capture.len() - 4 < at {
-        return;
-    }
-    if capture[at] == consts::SD2 {
-        capture[at + 3] = 0;
+    if let [consts::SD2, _, _, fourth, ..] = bytes {
+        *fourth = 0;
     }
 }
 
-fn let_one_through(capture: &mut [u8], at: usize, telegram: Telegram) {
-    if is_of_the_drive(telegram) {
-        clear_fourth(capture, at);
-    }
-}
-
-// What the telegram at a place is, in the first `len` bytes.
-fn read_at(capture: &[u8], at: usize, len: usize) -> Deserialized {
-    if len < at {
-        return Deserialized::Incomplete;
-    }
-    let rest = Part {
-        start: at,
-        len: len - at,
-    };
-    Telegram::deserialize(rest.show(capture))
-}
-
-fn let_through(capture: &mut [u8], len: usize) {
-    let mut at = 0;
-    while at < len {
-        let Deserialized::Telegram(telegram, total) = read_at(capture, at, len) else {
-            return;
-        };
-        let_one_through(capture, at, telegram);
-        if len - at < total {
-            return;
-        }
-        if total == 0 {
-            return;
-        }
-        at += total;
+#[tactic(auto, using(telegram::proofs::ReadingLaws::total_within, telegram::proofs::ReadingLaws::total_positive))]
+fn let_through(capture: &mut [u8]) {
+    let mut rest = capture;
+    while let Deserialized::Telegram(telegram, total) = Telegram::deserialize(rest) {
+        let_one_through(rest, telegram);
+        rest = &mut rest[total..];
     }
 }
 
@@ -70,9 +34,9 @@ fn main(rt: HostRuntime) -> io::Result<()> {
     let streams = Streams::new(rt.stdin(), rt.stdout(), rt.stderr());
     let mut capture = [0u8; 4096];
     let len = read_full(&streams, &mut capture);
-    let_through(&mut capture, len);
-    let read = Part { start: 0, len };
-    print(&streams, read.show(&capture));
+    let read = &mut capture[..len];
+    let_through(read);
+    print(&streams, read);
     print(&streams, b"\x10\x05\x02\x49\x50\x16");
     print(&streams, b"\x68\x03\x03\x68\x02\x05\x00\x07\x16");
     streams.end()

@@ -11,10 +11,10 @@ ghost use Rattle.stage.specs.Rows.{played};
 use line_text::printing::Streams;
 use stage::Stage;
 use stage::scenes::{
-    close_scene, head_end_restarts, head_end_submits, open_scene, opening_passes, order_passes,
+    head_end_restarts, head_end_submits, open_scene, opening_passes, order_passes,
 };
 
-fn steps(streams: &Streams) -> Stage
+pub(crate) fn steps(streams: &Streams) -> Stage
     ensures { result ≡ played default_tries accident }
 {
     let mut stage = open_scene(
@@ -30,8 +30,4 @@ fn steps(streams: &Streams) -> Stage
     stage = opening_passes(streams, stage);
     stage = order_passes(streams, stage, b"closed-18");
     stage
-}
-
-pub(crate) fn play(streams: &Streams) {
-    close_scene(streams, b"accident", steps(streams));
 }

@@ -9,11 +9,11 @@ ghost use Rattle.stage.specs.Rows.{played};
 use line_text::printing::Streams;
 use stage::Stage;
 use stage::scenes::{
-    cabinet_hears, cabinet_restarts, close_scene, head_end_hears_nothing, head_end_submits,
-    line_loses, open_scene_with_tries, opening_passes, order_passes,
+    cabinet_hears, cabinet_restarts, head_end_hears_nothing, head_end_submits, line_loses,
+    open_scene_with_tries, opening_passes, order_passes,
 };
 
-fn steps(streams: &Streams) -> Stage
+pub(crate) fn steps(streams: &Streams) -> Stage
     ensures { result ≡ played 2 cabinet_restart }
 {
     let mut stage = open_scene_with_tries(
@@ -33,8 +33,4 @@ fn steps(streams: &Streams) -> Stage
     stage = opening_passes(streams, stage);
     stage = order_passes(streams, stage, b"opened-18");
     stage
-}
-
-pub(crate) fn play(streams: &Streams) {
-    close_scene(streams, b"cabinet_restart", steps(streams));
 }

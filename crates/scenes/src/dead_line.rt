@@ -8,11 +8,10 @@ ghost use Rattle.stage.specs.Rows.{played};
 use line_text::printing::Streams;
 use stage::Stage;
 use stage::scenes::{
-    close_scene, head_end_hears_nothing, head_end_submits, line_loses, open_scene_with_tries,
-    opening_passes,
+    head_end_hears_nothing, head_end_submits, line_loses, open_scene_with_tries, opening_passes,
 };
 
-fn steps(streams: &Streams) -> Stage
+pub(crate) fn steps(streams: &Streams) -> Stage
     ensures { result ≡ played 2 dead_line }
 {
     let mut stage = open_scene_with_tries(
@@ -33,8 +32,4 @@ fn steps(streams: &Streams) -> Stage
     stage = line_loses(streams, stage);
     stage = head_end_hears_nothing(streams, stage);
     stage
-}
-
-pub(crate) fn play(streams: &Streams) {
-    close_scene(streams, b"dead_line", steps(streams));
 }

@@ -8,9 +8,9 @@ ghost use Rattle.stage.specs.Rows.{played};
 
 use line_text::printing::Streams;
 use stage::Stage;
-use stage::scenes::{close_scene, head_end_submits, open_scene, opening_passes, order_passes};
+use stage::scenes::{head_end_submits, open_scene, opening_passes, order_passes};
 
-fn steps(streams: &Streams) -> Stage
+pub(crate) fn steps(streams: &Streams) -> Stage
     ensures { result ≡ played default_tries five_orders }
 {
     let mut stage = open_scene(
@@ -30,8 +30,4 @@ fn steps(streams: &Streams) -> Stage
     stage = head_end_submits(streams, stage, b"?");
     stage = order_passes(streams, stage, b"");
     stage
-}
-
-pub(crate) fn play(streams: &Streams) {
-    close_scene(streams, b"five_orders", steps(streams));
 }

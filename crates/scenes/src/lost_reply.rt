@@ -9,11 +9,11 @@ ghost use Rattle.stage.specs.Rows.{played};
 use line_text::printing::Streams;
 use stage::Stage;
 use stage::scenes::{
-    cabinet_answers, cabinet_hears, close_scene, head_end_hears, head_end_hears_nothing,
-    head_end_submits, line_loses, open_scene, opening_passes,
+    cabinet_answers, cabinet_hears, head_end_hears, head_end_hears_nothing, head_end_submits,
+    line_loses, open_scene, opening_passes,
 };
 
-fn steps(streams: &Streams) -> Stage
+pub(crate) fn steps(streams: &Streams) -> Stage
     ensures { result ≡ played default_tries lost_reply }
 {
     let mut stage = open_scene(
@@ -30,8 +30,4 @@ fn steps(streams: &Streams) -> Stage
     stage = cabinet_hears(streams, stage);
     stage = head_end_hears(streams, stage);
     stage
-}
-
-pub(crate) fn play(streams: &Streams) {
-    close_scene(streams, b"lost_reply", steps(streams));
 }

@@ -10,11 +10,11 @@ ghost use Rattle.stage.specs.Rows.{played};
 use line_text::printing::Streams;
 use stage::Stage;
 use stage::scenes::{
-    cabinet_answers, cabinet_hears, cabinet_made_anew, close_scene, head_end_hears,
-    head_end_restarts, head_end_submits, open_scene, opening_passes, order_passes,
+    cabinet_answers, cabinet_hears, cabinet_made_anew, head_end_hears, head_end_restarts,
+    head_end_submits, open_scene, opening_passes, order_passes,
 };
 
-fn steps(streams: &Streams) -> Stage
+pub(crate) fn steps(streams: &Streams) -> Stage
     ensures { result ≡ played default_tries made_anew }
 {
     let mut stage = open_scene(
@@ -33,8 +33,4 @@ fn steps(streams: &Streams) -> Stage
     stage = opening_passes(streams, stage);
     stage = order_passes(streams, stage, b"opened-18");
     stage
-}
-
-pub(crate) fn play(streams: &Streams) {
-    close_scene(streams, b"made_anew", steps(streams));
 }

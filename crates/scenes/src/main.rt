@@ -12,20 +12,13 @@ mod restart_in_opening;
 mod restart_in_order;
 mod slow_cabinet;
 
-use line_text::bytes::{find, front};
+use line_text::bytes::front;
 use line_text::printing::{Streams, is_readable, print, print_error, read_full};
+use stage::scenes::close_scene;
 use std::io;
 
 // The longest input.
 const NAMES: usize = 1024;
-
-fn is_name(line: &[u8], name: &[u8]) -> bool {
-    if line.len() == name.len() {
-        text::begins_at(line, 0, name)
-    } else {
-        false
-    }
-}
 
 fn no_scene(streams: &Streams, name: &[u8]) {
     print(streams, b"error=no-scene name=");
@@ -33,58 +26,27 @@ fn no_scene(streams: &Streams, name: &[u8]) {
     print(streams, b"\n");
 }
 
+// The scene of this name; an empty line has none.
 fn play(streams: &Streams, name: &[u8]) {
-    if is_name(name, b"accident") {
-        return accident::play(streams);
-    }
-    if is_name(name, b"lost_reply") {
-        return lost_reply::play(streams);
-    }
-    if is_name(name, b"cabinet_restart") {
-        return cabinet_restart::play(streams);
-    }
-    if is_name(name, b"five_orders") {
-        return five_orders::play(streams);
-    }
-    if is_name(name, b"dead_line") {
-        return dead_line::play(streams);
-    }
-    if is_name(name, b"restart_in_opening") {
-        return restart_in_opening::play(streams);
-    }
-    if is_name(name, b"restart_in_order") {
-        return restart_in_order::play(streams);
-    }
-    if is_name(name, b"made_anew") {
-        return made_anew::play(streams);
-    }
-    if is_name(name, b"slow_cabinet") {
-        return slow_cabinet::play(streams);
-    }
-    no_scene(streams, name)
-}
-
-fn play_line(streams: &Streams, line: &[u8]) {
-    if 0 < line.len() {
-        play(streams, line);
-    }
-}
-
-fn run(streams: &Streams, names: &[u8]) {
-    let mut at = 0;
-    while at < names.len() {
-        let end = find(names, at, b'\n');
-        play_line(streams, &names[at..end]);
-        if end == names.len() {
-            return;
-        }
-        at = end + 1;
-    }
+    let stage = match name {
+        b"accident" => accident::steps(streams),
+        b"lost_reply" => lost_reply::steps(streams),
+        b"cabinet_restart" => cabinet_restart::steps(streams),
+        b"five_orders" => five_orders::steps(streams),
+        b"dead_line" => dead_line::steps(streams),
+        b"restart_in_opening" => restart_in_opening::steps(streams),
+        b"restart_in_order" => restart_in_order::steps(streams),
+        b"made_anew" => made_anew::steps(streams),
+        b"slow_cabinet" => slow_cabinet::steps(streams),
+        [] => return,
+        _ => return no_scene(streams, name),
+    };
+    close_scene(streams, name, stage);
 }
 
 fn main(rt: HostRuntime) -> io::Result<()> {
     let streams = Streams::new(rt.stdin(), rt.stdout(), rt.stderr());
-    let mut names = [0u8; 1025];
+    let mut names = [0; NAMES + 1];
     let n = read_full(&streams, &mut names);
     if NAMES < n {
         print(&streams, b"error=more-than-1024-bytes\n");
@@ -94,6 +56,8 @@ fn main(rt: HostRuntime) -> io::Result<()> {
         print_error(&streams, b"scenes: standard input cannot be read\n");
         return streams.end();
     }
-    run(&streams, front(&names, n));
+    for name in front(&names, n).split(|b| *b == b'\n') {
+        play(&streams, name);
+    }
     streams.end()
 }

@@ -11,11 +11,11 @@ ghost use Rattle.stage.specs.Rows.{played};
 use line_text::printing::Streams;
 use stage::Stage;
 use stage::scenes::{
-    cabinet_hears, close_scene, head_end_calls_restart, head_end_hears, head_end_submits,
-    open_scene, opening_passes, order_passes,
+    cabinet_hears, head_end_calls_restart, head_end_hears, head_end_submits, open_scene,
+    opening_passes, order_passes,
 };
 
-fn steps(streams: &Streams) -> Stage
+pub(crate) fn steps(streams: &Streams) -> Stage
     ensures { result ≡ played default_tries restart_in_opening }
 {
     let mut stage = open_scene(
@@ -31,8 +31,4 @@ fn steps(streams: &Streams) -> Stage
     stage = opening_passes(streams, stage);
     stage = order_passes(streams, stage, b"opened-18");
     stage
-}
-
-pub(crate) fn play(streams: &Streams) {
-    close_scene(streams, b"restart_in_opening", steps(streams));
 }

@@ -14,11 +14,11 @@ ghost use Rattle.stage.specs.Rows.{played};
 use line_text::printing::Streams;
 use stage::Stage;
 use stage::scenes::{
-    cabinet_answers, cabinet_hears, close_scene, head_end_hears, head_end_hears_nothing,
-    head_end_submits, open_scene_with_tries, opening_passes,
+    cabinet_answers, cabinet_hears, head_end_hears, head_end_hears_nothing, head_end_submits,
+    open_scene_with_tries, opening_passes,
 };
 
-fn steps(streams: &Streams) -> Stage
+pub(crate) fn steps(streams: &Streams) -> Stage
     ensures { result ≡ played 1 slow_cabinet }
 {
     let mut stage = open_scene_with_tries(
@@ -37,8 +37,4 @@ fn steps(streams: &Streams) -> Stage
     stage = cabinet_answers(streams, stage, b"opened-17");
     stage = head_end_hears(streams, stage);
     stage
-}
-
-pub(crate) fn play(streams: &Streams) {
-    close_scene(streams, b"slow_cabinet", steps(streams));
 }

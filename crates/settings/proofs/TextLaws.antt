@@ -1,6 +1,7 @@
 -- The settings text, read and written: a text is read just where it is the picture of settings that a link can have (`reads_settings`,
 -- `reads_no_form`), and what was written is read back (`written_then_read`, `read_as_written`).
 -- Nobody has to believe how it is read: what `read_of` answers is said here by the picture of the text alone.
+use Rattle.std.proofs.Common.{None, Ok, Option, Some}
 use mathlib.Core.Logic.{◌↔◌}
 use mathlib.Core.Path.{◌≡◌, refl, sym, ap, ◌∙◌}
 use mathlib.Core.Bool.{Bool, true, false}
@@ -15,12 +16,9 @@ use Rattle.ground.specs.Pick.{if}
 use Rattle.text.specs.Placed.{laid}
 use Rattle.text.proofs.PlacedLaws.{laid_front, laid_whole}
 use Rattle.settings.specs.declared.line.Line.{Line}
-use Rattle.settings.specs.declared.line.Line.TheVariants as line
-use Rattle.settings.specs.declared.settings.Form.{Form}
-use Rattle.settings.specs.declared.settings.Form.TheVariants.{Numbers, Nothing}
-use Rattle.settings.specs.declared.settings.SettingsWritten.TheVariants as answer
-use Rattle.settings.specs.Lines.{own=, peer=, tries=, line_of, line_at}
-use Rattle.settings.specs.Reading.{settings, refused, after_tries, after_peer, after_own, form_of, checked_of, of_form, read_of}
+use Rattle.settings.specs.declared.settings.Settings.{Settings}
+use Rattle.settings.specs.Lines.{own=, peer=, tries=, line_is, line_of, line_at}
+use Rattle.settings.specs.Reading.{ReadAnswer, settings, refused, numbers, after_tries, after_peer, after_own, form_of, checked_of, of_form, read_of}
 use Rattle.settings.specs.Rules.{rule_of, Allowed}
 use Rattle.settings.specs.Text.{text_of, Pictured}
 use Rattle.settings.specs.Writing.{written, refused as refusedWrite, write_of, left_by, Wrote}
@@ -31,21 +29,21 @@ use Rattle.settings.proofs.RuleLaws.{rule_allowed, allowed_rule, rule_is}
 -- ---- the form
 
 -- such a text has the right form, with these numbers
-pub pictured_form : (text : List ℕ) (own peer tries : ℕ) → Pictured text own peer tries → form_of text ≡ Numbers own peer tries
+pub pictured_form : (text : List ℕ) (own peer tries : ℕ) → Pictured text own peer tries → form_of text ≡ numbers own peer tries
 unfolding text_of
 pictured_form text own peer tries k = three_lines text first second third end
   where
-    first : line_at own= text 0 ≡ line.Number own (length (line_of own= own))
+    first : line_at own= text 0 ≡ line_is own (length (line_of own= own))
     first =
         line_written own= text 0 own (line_of peer= peer ++ line_of tries= tries)
         (k.picture ∙ append_assoc (line_of own= own) (line_of peer= peer) (line_of tries= tries))
         k.own_byte
-        ∙ ap (λ (n : ℕ). line.Number own n) (omega arith)
+        ∙ ap (λ (n : ℕ). line_is own n) (omega arith)
 
     behind_first : drop (length (line_of own= own)) text ≡ line_of peer= peer ++ line_of tries= tries
     behind_first = rw (k.picture, append_assoc) (drop-append_seam (line_of own= own) (line_of peer= peer ++ line_of tries= tries))
 
-    second : line_at peer= text (length (line_of own= own)) ≡ line.Number peer (length (line_of own= own) + length (line_of peer= peer))
+    second : line_at peer= text (length (line_of own= own)) ≡ line_is peer (length (line_of own= own) + length (line_of peer= peer))
     second = line_written peer= text (length (line_of own= own)) peer (line_of tries= tries) behind_first k.peer_byte
 
     behind_second : drop (length (line_of own= own) + length (line_of peer= peer)) text ≡ line_of tries= tries ++ []
@@ -54,7 +52,7 @@ pictured_form text own peer tries k = three_lines text first second third end
         ∙ sym (append-nil (line_of tries= tries))
 
     third : line_at tries= text (length (line_of own= own) + length (line_of peer= peer))
-        ≡ line.Number tries (length (line_of own= own) + length (line_of peer= peer) + length (line_of tries= tries))
+        ≡ line_is tries (length (line_of own= own) + length (line_of peer= peer) + length (line_of tries= tries))
     third = line_written tries= text (length (line_of own= own) + length (line_of peer= peer)) tries [] behind_second k.tries_byte
 
     end : length (line_of own= own) + length (line_of peer= peer) + length (line_of tries= tries) ≡ length text
@@ -79,35 +77,44 @@ lines_pictured {text} {own} {peer} {tries} a b c e = record {
   tries_byte = c.within;
 }
 
-pub form_pictured : (text : List ℕ) (own peer tries : ℕ) → form_of text ≡ Numbers own peer tries → Pictured text own peer tries
+-- settings have one number in each place
+settings_in : Option Settings → ReadAnswer
+settings_in (Some s) = settings s.own.0 s.peer.0 s.tries
+settings_in None = refused 0
+
+numbers_same : (o p t own peer tries : ℕ) → numbers o p t ≡ numbers own peer tries → (o ≡ own) × (p ≡ peer) × (t ≡ tries)
+unfolding settings_in
+numbers_same o p t own peer tries e = let same : settings o p t ≡ settings own peer tries = ap settings_in e in (cc, cc, cc)
+
+pub form_pictured : (text : List ℕ) (own peer tries : ℕ) → form_of text ≡ numbers own peer tries → Pictured text own peer tries
 unfolding form_of
 form_pictured text own peer tries e = from_own (line_at own= text 0) refl e
   where
     at_end : (o p t at₁ at₂ end : ℕ) → LineRead own= text 0 o at₁ → LineRead peer= text at₁ p at₂ → LineRead tries= text at₂ t end
-        → (s : Bool) → eqb end (length text) ≡ s → if s (Numbers o p t) Nothing ≡ Numbers own peer tries
+        → (s : Bool) → eqb end (length text) ≡ s → if {A = Option Settings} s (numbers o p t) None ≡ numbers own peer tries
         → Pictured text own peer tries
     at_end o p t at₁ at₂ end a b c true f e =
-        let o_is : o ≡ own = cc in
-        let p-is : p ≡ peer = cc in
-        let t-is : t ≡ tries = cc in
-        rw (← o_is, ← p-is, ← t-is) (lines_pictured a b c (eqb-true end (length text) f))
+        let same = numbers_same o p t own peer tries e in
+        rw (← same.0, ← same.1, ← same.2) (lines_pictured a b c (eqb-true end (length text) f))
     at_end o p t at₁ at₂ end a b c false f e = let z : ◌≡◌ {A = ℕ} 0 1 = cc in absurd (omega arith)
 
-    from_tries : (o p at₁ at₂ : ℕ) → LineRead own= text 0 o at₁ → LineRead peer= text at₁ p at₂ → (l : Line) → line_at tries= text at₂ ≡ l
-        → after_tries text o p l ≡ Numbers own peer tries
+    from_tries : (o p at₁ at₂ : ℕ) → LineRead own= text 0 o at₁ → LineRead peer= text at₁ p at₂ → (l : Option Line) → line_at tries= text at₂ ≡ l
+        → after_tries text o p l ≡ numbers own peer tries
         → Pictured text own peer tries
-    from_tries o p at₁ at₂ a b (line.Number t end) f e = at_end o p t at₁ at₂ end a b (line_read tries= text at₂ t end f) (eqb end (length text)) refl e
-    from_tries o p at₁ at₂ a b line.Nothing f e = let z : ◌≡◌ {A = ℕ} 0 1 = cc in absurd (omega arith)
+    from_tries o p at₁ at₂ a b (Some t) f e =
+        at_end o p t.value at₁ at₂ t.next a b (line_read tries= text at₂ t.value t.next f) (eqb t.next (length text)) refl e
+    from_tries o p at₁ at₂ a b None f e = let z : ◌≡◌ {A = ℕ} 0 1 = cc in absurd (omega arith)
 
-    from_peer : (o at₁ : ℕ) → LineRead own= text 0 o at₁ → (l : Line) → line_at peer= text at₁ ≡ l
-        → after_peer text o l ≡ Numbers own peer tries
+    from_peer : (o at₁ : ℕ) → LineRead own= text 0 o at₁ → (l : Option Line) → line_at peer= text at₁ ≡ l
+        → after_peer text o l ≡ numbers own peer tries
         → Pictured text own peer tries
-    from_peer o at₁ a (line.Number p at₂) f e = from_tries o p at₁ at₂ a (line_read peer= text at₁ p at₂ f) (line_at tries= text at₂) refl e
-    from_peer o at₁ a line.Nothing f e = let z : ◌≡◌ {A = ℕ} 0 1 = cc in absurd (omega arith)
+    from_peer o at₁ a (Some p) f e =
+        from_tries o p.value at₁ p.next a (line_read peer= text at₁ p.value p.next f) (line_at tries= text p.next) refl e
+    from_peer o at₁ a None f e = let z : ◌≡◌ {A = ℕ} 0 1 = cc in absurd (omega arith)
 
-    from_own : (l : Line) → line_at own= text 0 ≡ l → after_own text l ≡ Numbers own peer tries → Pictured text own peer tries
-    from_own (line.Number o at₁) f e = from_peer o at₁ (line_read own= text 0 o at₁ f) (line_at peer= text at₁) refl e
-    from_own line.Nothing f e = let z : ◌≡◌ {A = ℕ} 0 1 = cc in absurd (omega arith)
+    from_own : (l : Option Line) → line_at own= text 0 ≡ l → after_own text l ≡ numbers own peer tries → Pictured text own peer tries
+    from_own (Some o) f e = from_peer o.value o.next (line_read own= text 0 o.value o.next f) (line_at peer= text o.next) refl e
+    from_own None f e = let z : ◌≡◌ {A = ℕ} 0 1 = cc in absurd (omega arith)
 
 -- ---- what reading answers
 
@@ -131,7 +138,7 @@ pub reads_settings : (text : List ℕ) (own peer tries : ℕ)
 unfolding read_of checked_of
 reads_settings text own peer tries = (forth (form_of text) refl, back)
   where
-    ruled : (o p t : ℕ) → form_of text ≡ Numbers o p t → (s : Bool) → eqb (rule_of o p t) 0 ≡ s
+    ruled : (o p t : ℕ) → form_of text ≡ numbers o p t → (s : Bool) → eqb (rule_of o p t) 0 ≡ s
         → if s (settings o p t) (refused (rule_of o p t)) ≡ settings own peer tries
         → Allowed own peer tries × (text ≡ text_of own peer tries)
     ruled o p t f true r e =
@@ -141,9 +148,9 @@ reads_settings text own peer tries = (forth (form_of text) refl, back)
         rw (← o_is, ← p-is, ← t-is) (rule_allowed o p t (eqb-true (rule_of o p t) 0 r), (form_pictured text o p t f).picture)
     ruled o p t f false r e = let z : ◌≡◌ {A = ℕ} 0 1 = cc in absurd (omega arith)
 
-    forth : (form : Form) → form_of text ≡ form → of_form form ≡ settings own peer tries → Allowed own peer tries × (text ≡ text_of own peer tries)
-    forth (Numbers o p t) f e = ruled o p t f (eqb (rule_of o p t) 0) refl e
-    forth Nothing f e = let z : ◌≡◌ {A = ℕ} 0 1 = cc in absurd (omega arith)
+    forth : (form : Option Settings) → form_of text ≡ form → of_form form ≡ settings own peer tries → Allowed own peer tries × (text ≡ text_of own peer tries)
+    forth (Some s) f e = ruled s.own.0 s.peer.0 s.tries f (eqb (rule_of s.own.0 s.peer.0 s.tries) 0) refl e
+    forth None f e = let z : ◌≡◌ {A = ℕ} 0 1 = cc in absurd (omega arith)
 
     back : Allowed own peer tries × (text ≡ text_of own peer tries) → read_of text ≡ settings own peer tries
     back k =
@@ -165,9 +172,9 @@ reads_no_form text = (λ e own peer tries k. other own peer tries k e, λ none. 
         ruled true e = let z : ◌≡◌ {A = ℕ} 0 1 = cc in omega arith
         ruled false e = rule_is own peer tries (cc)
 
-    back : ((own peer tries : ℕ) → Pictured text own peer tries → ⊥) → (form : Form) → form_of text ≡ form → of_form form ≡ refused 20
-    back none (Numbers own peer tries) f = absurd (none own peer tries (form_pictured text own peer tries f))
-    back none Nothing f = refl
+    back : ((own peer tries : ℕ) → Pictured text own peer tries → ⊥) → (form : Option Settings) → form_of text ≡ form → of_form form ≡ refused 20
+    back none (Some s) f = absurd (none s.own.0 s.peer.0 s.tries (form_pictured text s.own.0 s.peer.0 s.tries f))
+    back none None f = refl
 
 -- ---- reading what was written
 
@@ -194,7 +201,7 @@ written_by own peer tries room len e = go (eqb (rule_of own peer tries) 0) refl 
 
 -- what a call wrote is read as the settings that it was given
 pub written_then_read : (own peer tries : ℕ) (before after : List ℕ) (len : ℕ)
-    → Wrote own peer tries before (answer.Written len) after
+    → Wrote own peer tries before (Ok len) after
     → read_of (take len after) ≡ settings own peer tries
 written_then_read own peer tries before after len w =
     let wrote = sym w.result in

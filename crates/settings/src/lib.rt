@@ -4,4 +4,4 @@
 mod line;
 pub mod settings;
 
-pub use settings::{Settings, SettingsRead, SettingsWritten, read_settings, write_settings};
+pub use settings::{Settings, read_settings, write_settings};

@@ -1,6 +1,4 @@
 -- Each step on a stage is proved beside its code; these are what the proofs share.
--- a call on a stage: its own promise, and the stage around it
-mod StepLaws
 -- a scene that is played, step by step
 pub mod PlayLaws
 -- a row of steps, by the number of tries

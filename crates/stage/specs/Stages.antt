@@ -3,18 +3,19 @@ use Rattle.std.specs.Prelude.{ℕ, ◌+◌, List, ltb, replicate}
 use Rattle.ground.specs.Part.{shown_part}
 use Rattle.ground.specs.Pick.{if}
 use Rattle.ground.specs.declared.part.Part.{Part}
+use Rattle.ground.specs.declared.returned.Returned.{Returned}
 use Rattle.initiator.specs.Calls as initiator
 use Rattle.initiator.specs.Calls.{Outcome, confirmed, not_sent, unknown}
 use Rattle.initiator.specs.Records as initiatorRecords
+use Rattle.initiator.specs.declared.answer.InitiatorAnswer.{InitiatorAnswer}
 use Rattle.initiator.specs.declared.state.Initiator.{Initiator}
 use Rattle.link_rules.specs.Rules.{room, default_tries, turned}
 use Rattle.link_rules.specs.declared.link.Link.{Link}
 use Rattle.link_telegrams.specs.Turns.{Said, sent, tells, nothing, refused, Turn}
 use Rattle.responder.specs.Calls as responder
 use Rattle.responder.specs.Records as responderRecords
+use Rattle.responder.specs.declared.answer.ResponderAnswer.{ResponderAnswer}
 use Rattle.responder.specs.declared.state.Responder.{Responder}
-use Rattle.stage.specs.declared.state.InitiatorStep.{InitiatorStep}
-use Rattle.stage.specs.declared.state.ResponderStep.{ResponderStep}
 use Rattle.stage.specs.declared.state.Stage.{Stage}
 use Rattle.stage.specs.declared.state.Tally.{Tally}
 
@@ -98,11 +99,11 @@ pub record Stepped (Tale : Type 0) : Type 0 where
   pub said : Said Tale
   pub stage : Stage
 
-abbrev pub shown_initiator_step : InitiatorStep → Stepped Outcome
-shown_initiator_step step = record { said = initiator.shown_said step.answer; stage = step.stage }
+abbrev pub shown_initiator_step : Returned InitiatorAnswer Stage → Stepped Outcome
+shown_initiator_step step = record { said = initiator.shown_said step.answer; stage = step.after }
 
-abbrev pub shown_responder_step : ResponderStep → Stepped Part
-shown_responder_step step = record { said = responder.shown_said step.answer; stage = step.stage }
+abbrev pub shown_responder_step : Returned ResponderAnswer Stage → Stepped Part
+shown_responder_step step = record { said = responder.shown_said step.answer; stage = step.after }
 
 -- the end's record is what its call leaves; the line holds what the call wrote, and nothing where it wrote nothing
 abbrev pub after_initiator : Stage → Turn Initiator Outcome → Tally → Stepped Outcome

@@ -1,4 +1,5 @@
-// The steps of a scene. Each prints its call, the answer and the telegram, and gives the stage that the step alone would give.
+// The steps of a scene. Each prints its call, the answer and the telegram, and gives the stage that the step alone would give. (The stage goes in
+// by value and comes back, so that a scene's promise speaks of stages alone.)
 ghost use Rattle.std.specs.Prelude.{◌≡◌};
 ghost use Rattle.stage.specs.Stages.{fresh, fresh_with, submit_step, silence_step, initiator_hear_step, responder_hear_step, answer_step, restart_step, anew_of, responder_anew_of, restarted_of, lost_of};
 ghost use Rattle.stage.specs.Exchanges.{opening_passed, order_passed};
@@ -10,10 +11,9 @@ use crate::telling::{
 use line_text::printing::Streams;
 
 fn print_heading(streams: &Streams, name: &[u8], about: &[u8], stage: Stage) {
-    let initiator = stage.initiator;
     print(streams, b"scene=");
     print(streams, name);
-    print_number(streams, b" tries=", initiator.tries());
+    print_number(streams, b" tries=", stage.initiator.tries());
     print(streams, b"\nabout=");
     print(streams, about);
     print(streams, b"\n");
@@ -57,10 +57,8 @@ pub fn head_end_submits(streams: &Streams, stage: Stage, order: &[u8]) -> Stage
 {
     print_bytes(streams, b"\nwho=head-end call=submit order=", order);
     let step = stage.submit(order);
-    let answer = step.answer;
-    let after = step.stage;
-    print_initiator_answer(streams, answer, stage, after);
-    after
+    print_initiator_answer(streams, step.answer, stage, step.after);
+    step.after
 }
 
 // Silence is reported.
@@ -69,10 +67,8 @@ pub fn head_end_hears_nothing(streams: &Streams, stage: Stage) -> Stage
 {
     print(streams, b"\nwho=head-end call=silence\n");
     let step = stage.report_silence();
-    let answer = step.answer;
-    let after = step.stage;
-    print_initiator_answer(streams, answer, stage, after);
-    after
+    print_initiator_answer(streams, step.answer, stage, step.after);
+    step.after
 }
 
 pub fn head_end_hears(streams: &Streams, stage: Stage) -> Stage
@@ -80,10 +76,8 @@ pub fn head_end_hears(streams: &Streams, stage: Stage) -> Stage
 {
     print(streams, b"\nwho=head-end call=hear\n");
     let step = stage.initiator_hears();
-    let answer = step.answer;
-    let after = step.stage;
-    print_initiator_answer(streams, answer, stage, after);
-    after
+    print_initiator_answer(streams, step.answer, stage, step.after);
+    step.after
 }
 
 // The head end restarts with its record at hand, and says what became of a pending order.
@@ -92,10 +86,8 @@ pub fn head_end_calls_restart(streams: &Streams, stage: Stage) -> Stage
 {
     print(streams, b"\nwho=head-end call=restart\n");
     let step = stage.restart_initiator();
-    let answer = step.answer;
-    let after = step.stage;
-    print_initiator_answer(streams, answer, stage, after);
-    after
+    print_initiator_answer(streams, step.answer, stage, step.after);
+    step.after
 }
 
 // The head end goes on with a record made anew.
@@ -114,10 +106,8 @@ pub fn cabinet_hears(streams: &Streams, stage: Stage) -> Stage
 {
     print(streams, b"\nwho=cabinet call=hear\n");
     let step = stage.responder_hears();
-    let answer = step.answer;
-    let after = step.stage;
-    print_responder_answer(streams, answer, stage, after);
-    after
+    print_responder_answer(streams, step.answer, stage, step.after);
+    step.after
 }
 
 // The cabinet's application answers the order that was handed up.
@@ -126,10 +116,8 @@ pub fn cabinet_answers(streams: &Streams, stage: Stage, reply: &[u8]) -> Stage
 {
     print_bytes(streams, b"\nwho=cabinet call=answer reply=", reply);
     let step = stage.answer(reply);
-    let answer = step.answer;
-    let after = step.stage;
-    print_responder_answer(streams, answer, stage, after);
-    after
+    print_responder_answer(streams, step.answer, stage, step.after);
+    step.after
 }
 
 pub fn cabinet_restarts(streams: &Streams, stage: Stage) -> Stage

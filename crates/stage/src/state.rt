@@ -1,14 +1,13 @@
 ghost use Rattle.std.specs.Prelude.{◌≡◌};
-ghost use Rattle.initiator.specs.Records.{made_of};
-ghost use Rattle.stage.specs.Stages.{scene_link, fresh, fresh_with, no_tally, with_ends, anew_of, responder_anew_of, restarted_of, lost_of};
+ghost use Rattle.stage.specs.Stages.{fresh, fresh_with, no_tally, anew_of, responder_anew_of, restarted_of, lost_of};
 
 use ground::Address;
-use initiator::{Initiator, InitiatorAnswer};
+use initiator::Initiator;
 use link_rules::Link;
-use responder::{Responder, ResponderAnswer};
+use responder::Responder;
 
 // What has happened so far. A number stops at 255.
-#[derive(Clone, Copy)]
+#[derive(Clone, Copy, Debug, PartialEq, Eq)]
 pub struct Tally {
     // Orders that a submission took.
     pub orders: u8,
@@ -23,29 +22,22 @@ pub struct Tally {
 pub struct Stage {
     pub(crate) initiator: Initiator,
     pub(crate) responder: Responder,
-    // The telegram on the line is the first `len` bytes; none is there where `len` is 0.
+    // The telegram on the line is the first `len` bytes; none is there where `len` is 0. (No `Vec`: a stage is copied, as the ends are.)
     pub(crate) line: [u8; 255],
     pub(crate) len: usize,
     pub(crate) tally: Tally,
 }
 
-// A call of the initiator or of the responder: its answer, and the stage afterwards.
-#[derive(Clone, Copy)]
-pub struct InitiatorStep {
-    pub answer: InitiatorAnswer,
-    pub stage: Stage,
-}
-
-#[derive(Clone, Copy)]
-pub struct ResponderStep {
-    pub answer: ResponderAnswer,
-    pub stage: Stage,
-}
-
 // The head end's station and the cabinet's.
-const HEAD_END: u8 = 2;
+const HEAD_END: Address = Address(2);
 
-const CABINET: u8 = 5;
+const CABINET: Address = Address(5);
+
+// The link of every scene, as its initiator has it.
+const LINK: Link = Link {
+    own: HEAD_END,
+    peer: CABINET,
+};
 
 fn no_tally() -> Tally
     ensures { result ≡ no_tally }
@@ -59,37 +51,22 @@ fn no_tally() -> Tally
     }
 }
 
+#[tactic(auto, unfolding(initiator::specs::Records::made_of, link_rules::specs::Rules::wrong_addresses, link_rules::specs::Rules::wrong_tries))]
 fn new_initiator() -> Initiator
     ensures { result ≡ fresh.initiator }
 {
-    let link = Link {
-        own: Address(HEAD_END),
-        peer: Address(CABINET),
-    };
-    let made = Initiator::with_default_tries(link);
-    made.initiator
+    Initiator::with_default_tries(LINK).after
 }
 
-fn new_initiator_with(tries: u8) -> Initiator
-    ensures { result ≡ (made_of scene_link tries).end }
-{
-    let link = Link {
-        own: Address(HEAD_END),
-        peer: Address(CABINET),
-    };
-    let made = Initiator::new(link, tries);
-    made.initiator
-}
-
+#[tactic(auto, unfolding(responder::specs::Records::made_of, link_rules::specs::Rules::wrong_addresses))]
 fn new_responder() -> Responder
     ensures { result ≡ fresh.responder }
 {
     let link = Link {
-        own: Address(CABINET),
-        peer: Address(HEAD_END),
+        own: CABINET,
+        peer: HEAD_END,
     };
-    let made = Responder::new(link);
-    made.responder
+    Responder::new(link).after
 }
 
 impl Stage {
@@ -97,16 +74,12 @@ impl Stage {
     pub fn new() -> Stage
         ensures { result ≡ fresh }
     {
-        let initiator = new_initiator();
-        let responder = new_responder();
-        let line = [0u8; 255];
-        let tally = no_tally();
         Stage {
-            initiator,
-            responder,
-            line,
+            initiator: new_initiator(),
+            responder: new_responder(),
+            line: [0; 255],
             len: 0,
-            tally,
+            tally: no_tally(),
         }
     }
 
@@ -114,9 +87,10 @@ impl Stage {
     pub fn with_tries(tries: u8) -> Stage
         ensures { result ≡ fresh_with tries }
     {
-        let stage = Stage::new();
-        let responder = stage.responder;
-        stage.with_ends(new_initiator_with(tries), responder)
+        Stage {
+            initiator: Initiator::new(LINK, tries).after,
+            ..Stage::new()
+        }
     }
 
     pub fn tally(self) -> Tally
@@ -125,50 +99,41 @@ impl Stage {
         self.tally
     }
 
-    // The same stage with these ends; what is on the line stays there, as it does on the line of demand 3.
-    fn with_ends(self, initiator: Initiator, responder: Responder) -> Stage
-        ensures { result ≡ with_ends self initiator responder }
-    {
-        let line = self.line;
-        let tally = self.tally;
-        Stage {
-            initiator,
-            responder,
-            line,
-            len: self.len,
-            tally,
-        }
-    }
+    // What is on the line stays there while an end is made anew or restarts, as it does on the line of demand 3.
 
     // The initiator loses its record and starts with one made anew.
     pub fn make_initiator_anew(self) -> Stage
         ensures { result ≡ anew_of self }
     {
-        let responder = self.responder;
-        self.with_ends(new_initiator(), responder)
+        Stage {
+            initiator: new_initiator(),
+            ..self
+        }
     }
 
     // The responder loses its record and starts with one made anew.
     pub fn make_responder_anew(self) -> Stage
         ensures { result ≡ responder_anew_of self }
     {
-        let initiator = self.initiator;
-        self.with_ends(initiator, new_responder())
+        Stage {
+            responder: new_responder(),
+            ..self
+        }
     }
 
     pub fn restart_responder(self) -> Stage
         ensures { result ≡ restarted_of self }
     {
-        let initiator = self.initiator;
-        let responder = self.responder;
-        self.with_ends(initiator, responder.restart())
+        Stage {
+            responder: self.responder.restart(),
+            ..self
+        }
     }
 
     // The line loses the telegram on it.
-    pub fn lose(mut self) -> Stage
+    pub fn lose(self) -> Stage
         ensures { result ≡ lost_of self }
     {
-        self.len = 0;
-        self
+        Stage { len: 0, ..self }
     }
 }

@@ -11,7 +11,7 @@ use text::put_hex;
 
 // In hexadecimal. No telegram of the link has more than 255 bytes; a longer order or reply, which the calls refuse, is not spelt out.
 fn print_hex(streams: &Streams, bytes: &[u8]) {
-    if bytes.len() == 0 {
+    if bytes.is_empty() {
         print(streams, b"-");
         return;
     }
@@ -19,39 +19,30 @@ fn print_hex(streams: &Streams, bytes: &[u8]) {
         print(streams, b"above-255-bytes");
         return;
     }
-    let mut out = [0u8; 510];
+    let mut out = [0; 510];
     let to = put_hex(&mut out, 0, bytes);
     print(streams, front(&out, to));
 }
 
 // A byte as a sign that can be printed and ends no word.
 fn sign(b: u8) -> u8 {
-    if b < 33 {
-        return b'.';
-    }
-    if 126 < b { b'.' } else { b }
+    if matches!(b, 33..=126) { b } else { b'.' }
 }
 
 fn put_signs(out: &mut [u8], bytes: &[u8]) -> usize {
     let mut to = 0;
-    let mut at = 0;
-    while at < bytes.len() {
-        to = text::put_byte(out, to, sign(bytes[at]));
-        at += 1;
+    for &b in bytes {
+        to = text::put_byte(out, to, sign(b));
     }
     to
 }
 
 fn print_text(streams: &Streams, bytes: &[u8]) {
-    if bytes.len() == 0 {
+    if bytes.is_empty() || 255 < bytes.len() {
         print(streams, b"-");
         return;
     }
-    if 255 < bytes.len() {
-        print(streams, b"-");
-        return;
-    }
-    let mut out = [0u8; 255];
+    let mut out = [0; 255];
     let to = put_signs(&mut out, bytes);
     print(streams, front(&out, to));
 }
@@ -80,9 +71,10 @@ fn print_second_line(streams: &Streams, listing: &[u8]) {
 // A telegram as the lister names it.
 fn print_listed(streams: &Streams, telegram: &[u8]) {
     // The three lines of one telegram, of which none is longer than 80 bytes.
-    let mut text = [0u8; 240];
-    let listed = listing::list(telegram, &mut text);
-    print_second_line(streams, listed.text(&text));
+    let mut text = [0; 240];
+    if let Ok(len) = listing::list(telegram, &mut text) {
+        print_second_line(streams, front(&text, len));
+    }
 }
 
 pub fn print_sent(streams: &Streams, telegram: &[u8]) {
@@ -94,14 +86,12 @@ pub fn print_sent(streams: &Streams, telegram: &[u8]) {
 
 // The telegram that a call wrote.
 fn print_written(streams: &Streams, after: Stage) {
-    let line = after.line;
-    print_sent(streams, front(&line, after.len));
+    print_sent(streams, front(&after.line, after.len));
 }
 
 // A part of the telegram that a call heard, behind its key.
 fn print_heard(streams: &Streams, key: &[u8], part: Part, before: Stage) {
-    let line = before.line;
-    let heard = front(&line, before.len);
+    let heard = front(&before.line, before.len);
     print_bytes(streams, key, part.show(heard));
 }
 

@@ -4,12 +4,12 @@ use Prim.Native.Nat.{ℕ, suc, ◌≤◌, ◌<◌}
 use mathlib.Core.Bool.{Bool, true, false}
 use mathlib.Core.List.{List}
 use mathlib.Core.Logic.{◌⊎◌, inl, inr}
-use mathlib.Core.Option.{Option, none, some}
 use mathlib.Core.Path.{◌≡◌, refl, ap, ◌∙◌}
 use native.Mathlib.Omega.{arith}
 use borrow.Author.Tests.{le-ltb, lt-ltb}
 use lib.Dec.{eqb, lit≤}
 use lib.ListN.{length, set, replicate, length-set, length-replicate}
+use Rattle.std.proofs.Common.{None, Option, Some}
 use Rattle.station_lists.specs.StationLists.{StationList, IsNext, lowest_above, lowest_of_all, nobody_next, IsPrevious, highest_below, highest_of_all, nobody_previous, updated_set, PassHolds, Reached, by_new, by_witness, by_claim, by_set_next, by_remove, Stays, Becomes, Fresh, IsStationList}
 use Rattle.ground.specs.Pick.{if}
 use Rattle.token_ring.proofs.ByIndex.{set_at, passed_at}
@@ -55,12 +55,12 @@ sound (by_remove a w) = sound_remove (sound w) a
 
 module _ (own : ℕ) (l : List Bool) (size : length l ≡ 128) where
   next_by : (o o₀ : Option ℕ) → lowest_from (suc own) l ≡ o → lowest_from 0 l ≡ o₀ → IsNext (active l) own (or_else o (or_else o₀ own))
-  next_by (some a) o₀ e f =
+  next_by (Some a) o₀ e f =
       let w = lowest_found (suc own) l a e in lowest_above w.active (omega arith) (λ b h g. w.lowest b (omega arith) g)
-  next_by none (some a) e f =
+  next_by None (Some a) e f =
       let w = lowest_found 0 l a f in
       lowest_of_all w.active (λ b h. lowest_none (suc own) l e b (omega arith)) (λ b g. w.lowest b (omega arith) g)
-  next_by none none e f = nobody_next (λ b. lowest_none 0 l f b (omega arith))
+  next_by None None e f = nobody_next (λ b. lowest_none 0 l f b (omega arith))
 
   next_is : IsNext (active l) own (next_of own l)
   unfolding next_of
@@ -71,12 +71,12 @@ module _ (own : ℕ) (l : List Bool) (size : length l ≡ 128) where
 
   previous_by : (o o₀ : Option ℕ) → flags.highest_below own l ≡ o → flags.highest_below 128 l ≡ o₀
       → IsPrevious (active l) own (or_else o (or_else o₀ own))
-  previous_by (some a) o₀ e f =
+  previous_by (Some a) o₀ e f =
       let w = highest_found own l a e in highest_below w.active w.below (λ b h g. w.highest b h g)
-  previous_by none (some a) e f =
+  previous_by None (Some a) e f =
       let w = highest_found 128 l a f in
       highest_of_all w.active (λ b h. highest_none own l e b h) (λ b g. w.highest b (low b g) g)
-  previous_by none none e f = nobody_previous (λ b. unset _ (λ g. both g (highest_none 128 l f b (low b g))))
+  previous_by None None e f = nobody_previous (λ b. unset _ (λ g. both g (highest_none 128 l f b (low b g))))
 
   previous_is : IsPrevious (active l) own (previous_of own l)
   unfolding previous_of

@@ -1,5 +1,6 @@
 -- Every answer of reading, with what is known where it is given (`Answered`): the laws of reading go by these cases. Read `answered` and
 -- `answer_is`, the two ways, and `steps_read`: the table of document 01 and the steps of our reader answer alike.
+use Rattle.std.proofs.Common.{None, Option, Some}
 use Prim.Native.Nat.{ℕ, suc, ◌+◌, ◌<◌, ◌≤◌}
 use mathlib.Core.Bool.{Bool, true, false, not}
 use mathlib.Core.List.{List}
@@ -16,8 +17,6 @@ use Rattle.codes.specs.FunctionCodes.{function_code_of, is_read}
 use Rattle.ground.specs.Part.{part, byte_at}
 use Rattle.ground.specs.Pick.{if}
 use Rattle.codes.specs.declared.function_code.FunctionCode.{FunctionCode}
-use Rattle.codes.specs.declared.function_code.FunctionCodeFound.{FunctionCodeFound}
-use Rattle.codes.specs.declared.function_code.FunctionCodeFound.TheVariants as codeFound
 use Rattle.codes.specs.Delimiters.{SD1, SD2, SD3, SD4, SC, ED}
 use Rattle.telegram.specs.Leaves.{content_of, code_of, frame_of, lengths_of, data_of, token_of, steps_of}
 use Rattle.telegram.specs.Reading.{Reading, whole, incomplete, refused, saps_at, telegram_at, token_at, starts_data, data_read, read_of}
@@ -40,42 +39,6 @@ module _ (s : List ℕ) where
   steps_data h (inl e) = rw (ne_eqb _ _ h, e)
   steps_data h (inr (inl e)) = rw (ne_eqb _ _ h, e)
   steps_data h (inr (inr e)) = rw (ne_eqb _ _ h, e)
-
-  pub token_under : length s < 3 → token_of s ≡ incomplete
-  unfolding token_of
-  token_under h = rw (lt-ltb _ _ h)
-
-  pub token_read : 3 ≤ length s → token_of s ≡ whole (Token (token_at s)) 3
-  unfolding token_of
-  token_read h = rw (le-ltb _ _ h)
-
-  pub data_under : length s < 6 → data_of s ≡ incomplete
-  unfolding data_of
-  data_under h = rw (lt-ltb _ _ h)
-
-  pub sd1_read : 6 ≤ length s → byte_at s 0 ≡ SD1 → data_of s ≡ frame_of s 1 3
-  unfolding data_of
-  sd1_read h d = rw (le-ltb _ _ h, d)
-
-  pub sd2_read : 6 ≤ length s → byte_at s 0 ≡ SD2 → data_of s ≡ lengths_of s
-  unfolding data_of
-  sd2_read h d = rw (le-ltb _ _ h, d)
-
-  pub sd3_read : 6 ≤ length s → (byte_at s 0 ≡ SD1 → ⊥) → (byte_at s 0 ≡ SD2 → ⊥) → data_of s ≡ frame_of s 1 11
-  unfolding data_of
-  sd3_read h a b = rw (le-ltb _ _ h, ne_eqb _ _ a, ne_eqb _ _ b)
-
-  pub differ_read : (byte_at s 1 ≡ byte_at s 2 → ⊥) → lengths_of s ≡ refused 2
-  unfolding lengths_of
-  differ_read d = rw (ne_eqb _ _ d)
-
-  pub small_read : byte_at s 1 ≡ byte_at s 2 → byte_at s 1 < 3 → lengths_of s ≡ refused 3
-  unfolding lengths_of
-  small_read e l = rw (eq-eqb _ _ e, lt-ltb _ _ l)
-
-  pub lengths_read : byte_at s 1 ≡ byte_at s 2 → 3 ≤ byte_at s 1 → lengths_of s ≡ frame_of s 4 (byte_at s 1)
-  unfolding lengths_of
-  lengths_read e l = rw (eq-eqb _ _ e, le-ltb _ _ l)
 
 -- Steps 5 to 7.
 pub data Content (s : List ℕ) (at l : ℕ) (fc : FunctionCode) : Reading → Type 0 where
@@ -105,10 +68,10 @@ whole_saps fc (content_whole f a b) = f
 -- Steps 3 and 4.
 pub data Frame (s : List ℕ) (at l : ℕ) : Reading → Type 0 where
   under_total : length s < at + l + 2 → Frame s at l incomplete
-  code_unknown : at + l + 2 ≤ length s → function_code_of (byte_at s (at + 2)) ≡ codeFound.Nothing → Frame s at l (refused 4)
+  code_unknown : at + l + 2 ≤ length s → function_code_of (byte_at s (at + 2)) ≡ None → Frame s at l (refused 4)
   code_known :
       {r : Reading} (fc : FunctionCode)
-      → at + l + 2 ≤ length s → function_code_of (byte_at s (at + 2)) ≡ codeFound.Is fc → Content s at l fc r
+      → at + l + 2 ≤ length s → function_code_of (byte_at s (at + 2)) ≡ Some fc → Content s at l fc r
       → Frame s at l r
 
 -- Steps 1 and 2, and what stands before them.
@@ -141,10 +104,10 @@ content_answered s at l fc =
 
 code_answered :
     (s : List ℕ) (at l : ℕ) → at + l + 2 ≤ length s
-    → (found : FunctionCodeFound) → function_code_of (byte_at s (at + 2)) ≡ found
+    → (found : Option FunctionCode) → function_code_of (byte_at s (at + 2)) ≡ found
     → Frame s at l (code_of s at l found)
-code_answered s at l h (codeFound.Is fc) e = code_known fc h e (content_answered s at l fc)
-code_answered s at l h codeFound.Nothing e = code_unknown h e
+code_answered s at l h (Some fc) e = code_known fc h e (content_answered s at l fc)
+code_answered s at l h None e = code_unknown h e
 
 frame_answered : (s : List ℕ) (at l : ℕ) → Frame s at l (frame_of s at l)
 unfolding frame_of
@@ -224,16 +187,10 @@ answer_content (content_whole h e d) = rw (le-ltb _ _ h, eq-eqb _ _ e, eq-eqb _ 
 -- A function code that is known: the rest of the telegram decides.
 pub code_read :
     (s : List ℕ) (at l : ℕ) (fc : FunctionCode)
-    → at + l + 2 ≤ length s → function_code_of (byte_at s (at + 2)) ≡ codeFound.Is fc
+    → at + l + 2 ≤ length s → function_code_of (byte_at s (at + 2)) ≡ Some fc
     → frame_of s at l ≡ content_of s at l fc
 unfolding frame_of
 code_read s at l fc h e = rw (le-ltb _ _ h, e)
-
-pub answer_frame : {s : List ℕ} {at l : ℕ} {r : Reading} → Frame s at l r → frame_of s at l ≡ r
-unfolding frame_of
-answer_frame (under_total h) = rw (lt-ltb _ _ h)
-answer_frame (code_unknown h e) = rw (le-ltb _ _ h, e)
-answer_frame (code_known fc h e c) = code_read _ _ _ fc h e ∙ answer_content c
 
 -- ---- the table of document 01
 
@@ -249,7 +206,7 @@ tail s at l =
 
 tail_known :
     {s : List ℕ} {at l : ℕ} (fc : FunctionCode) {r : Reading}
-    → at + l + 2 ≤ length s → function_code_of (byte_at s (at + 2)) ≡ codeFound.Is fc → Content s at l fc r
+    → at + l + 2 ≤ length s → function_code_of (byte_at s (at + 2)) ≡ Some fc → Content s at l fc r
     → tail s at l ≡ r
 tail_known fc h e (sap_missing f) = rw (le-ltb _ _ h, e, lt-ltb _ _ f)
 tail_known fc h e (sum_differs f d) = rw (le-ltb _ _ h, e, le-ltb _ _ f, ne_eqb _ _ d)

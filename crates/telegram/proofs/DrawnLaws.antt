@@ -1,4 +1,5 @@
 -- What begins with a telegram's picture is read as that telegram: `picture_reads`.
+use Rattle.std.proofs.Common.{None, Option, Some}
 use Prim.Native.Nat.{ℕ, ◌+◌, ◌-◌, ◌%◌, ◌≤◌}
 use mathlib.Core.Bool.{Bool, true, false}
 use mathlib.Core.List.{List, [], ◌∷◌, ◌++◌, append_assoc}
@@ -22,38 +23,37 @@ use Rattle.codes.specs.Delimiters.{SD1, SD2, SD3, ED}
 use Rattle.telegram.specs.Picture.{address_byte, sap_bytes, head_with, framed}
 use Rattle.telegram.specs.Reading.{whole, top, sap_at, header_at, saps_at, telegram_at, read_of}
 use Rattle.telegram.specs.declared.header.DataTelegramHeader.{DataTelegramHeader}
-use Rattle.telegram.specs.declared.header.SapOption.{SapOption}
-use Rattle.telegram.specs.declared.header.SapOption.TheVariants.{Some, None}
 use Rattle.telegram.specs.declared.kinds.DataTelegram.{DataTelegram}
 use Rattle.telegram.specs.declared.kinds.Telegram.{Telegram}
 use Rattle.telegram.specs.declared.kinds.Telegram.TheVariants.{Data, Token, ShortConfirmation}
+use Rattle.ground.specs.declared.address.Sap.{Sap}
 
 -- whether there is a SAP
-is_some : SapOption → Bool
+is_some : Option Sap → Bool
 is_some (Some sap) = true
 is_some None = false
 
-announces : (a : ℕ) (o : SapOption) → a ≤ 127 → top (address_byte a o) ≡ is_some o
+announces : (a : ℕ) (o : Option Sap) → a ≤ 127 → top (address_byte a o) ≡ is_some o
 unfolding is_some
 announces a (Some sap) h = le-leb 128 (a + 128) (omega arith)
 announces a None h = lt-leb 128 a (omega arith)
 
-bare : (a : ℕ) (o : SapOption) → a ≤ 127 → address_byte a o % 128 ≡ a
+bare : (a : ℕ) (o : Option Sap) → a ≤ 127 → address_byte a o % 128 ≡ a
 bare a (Some sap) h = omega arith
 bare a None h = omega arith
 
-counted : (o : SapOption) → digit (is_some o) ≡ length (sap_bytes o)
+counted : (o : Option Sap) → digit (is_some o) ≡ length (sap_bytes o)
 unfolding is_some
 counted (Some sap) = refl
 counted None = refl
 
-first_sap : (a b c : ℕ) (o : SapOption) (p q : List ℕ) → sap_at (is_some o) (a ∷ b ∷ c ∷ sap_bytes o ++ p ++ q) 3 ≡ o
+first_sap : (a b c : ℕ) (o : Option Sap) (p q : List ℕ) → sap_at (is_some o) (a ∷ b ∷ c ∷ sap_bytes o ++ p ++ q) 3 ≡ o
 unfolding is_some
 first_sap a b c (Some sap) p q = refl
 first_sap a b c None p q = refl
 
 second_sap :
-    (a b c : ℕ) (o p : SapOption) (q : List ℕ)
+    (a b c : ℕ) (o p : Option Sap) (q : List ℕ)
     → sap_at (is_some p) (a ∷ b ∷ c ∷ sap_bytes o ++ sap_bytes p ++ q) (3 + digit (is_some o)) ≡ p
 unfolding is_some
 second_sap a b c o None q = refl
@@ -202,7 +202,7 @@ module _ {narrow wide : Rules} (wider : Wider narrow wide) where
   starts_wider with_sd3 = with_sd3
   starts_wider (with_sd2 {l} {fourth} low any) = with_sd2 (wider.lengths l low) (wider.fourths fourth any)
 
-  saps_wider : (o : SapOption) → SapMayBe narrow o → SapMayBe wide o
+  saps_wider : (o : Option Sap) → SapMayBe narrow o → SapMayBe wide o
   saps_wider (Some sap) is = wider.saps sap.0 is
   saps_wider None is = tt
 

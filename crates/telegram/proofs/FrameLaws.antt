@@ -1,6 +1,7 @@
 -- Laws of the frame. Read `framed_read`: the reader's answer is made from it; for callers who judge the bytes of a frame themselves
 -- `found_frame`, `frame_reads`, `sealed_found`, `data_framed`, `framed_data` and `sealed_reads`. The rest says what each step of framing
 -- answers.
+use Rattle.std.proofs.Common.{None, Option, Some}
 use Prim.Native.Nat.{ℕ, ◌+◌, ◌<◌, ◌≤◌}
 use mathlib.Core.Bool.{Bool, true, false, not}
 use mathlib.Core.List.{List}
@@ -14,8 +15,6 @@ use Rattle.codes.specs.Checksums.{checksum_of}
 use Rattle.codes.specs.Delimiters.{SD1, SD2, SD3, SD4, SC, ED}
 use Rattle.codes.specs.FunctionCodes.{function_code_of}
 use Rattle.codes.specs.declared.function_code.FunctionCode.{FunctionCode}
-use Rattle.codes.specs.declared.function_code.FunctionCodeFound.{FunctionCodeFound}
-use Rattle.codes.specs.declared.function_code.FunctionCodeFound.TheVariants as codeFound
 use Rattle.ground.proofs.Injective.{injective, zero_one}
 use Rattle.ground.proofs.PickLaws.{picked, both_first, both_second}
 use Rattle.ground.proofs.RefusalLaws.{refusal_of, refusal_again}
@@ -56,18 +55,6 @@ module _ (s : List ℕ) where
   pub total_framing : (at l : ℕ) → at + l + 2 ≤ length s → framing_at s at l ≡ frame_is (frame_at s at l)
   unfolding framing_at
   total_framing at l h = rw (le-ltb _ _ h)
-
-  pub six_framing : length s < 6 → framing_long s ≡ frame_incomplete
-  unfolding framing_long
-  six_framing h = rw (lt-ltb _ _ h)
-
-  pub differ_framing : 6 ≤ length s → (byte_at s 1 ≡ byte_at s 2 → ⊥) → framing_long s ≡ frame_refused 2
-  unfolding framing_long framing_lengths
-  differ_framing h d = rw (le-ltb _ _ h, ne_eqb _ _ d)
-
-  pub small_framing : 6 ≤ length s → byte_at s 1 ≡ byte_at s 2 → byte_at s 1 < 3 → framing_long s ≡ frame_refused 3
-  unfolding framing_long framing_lengths
-  small_framing h e l = rw (le-ltb _ _ h, eq-eqb _ _ e, lt-ltb _ _ l)
 
   pub lengths_framing :
       6 ≤ length s → byte_at s 1 ≡ byte_at s 2 → 3 ≤ byte_at s 1
@@ -214,6 +201,13 @@ module _ (s : List ℕ) (f : Frame) where
       picked Fits (eqb (length s) 0) (λ u. none_found)
       (λ u. picked Fits (starts_data (byte_at s 0)) (λ v. data_found (starts_true _ v)) (λ v. refused_found 1))
 
+  -- What the reader's next step asks of it.
+  pub found_long : frame_is f ≡ framing_of s → 3 ≤ f.len
+  found_long e = (found_frame (sym e)).long
+
+  pub found_within : frame_is f ≡ framing_of s → f.at + f.len + 2 ≤ length s
+  found_within e = let fits = found_frame (sym e) in omega (arith, fits.counted, fits.within)
+
   -- Where a frame was found, it is read: from step 4 on.
   pub frame_reads :
       framing_of s ≡ frame_is f
@@ -273,10 +267,10 @@ module _ (s : List ℕ) (f : Frame) where
       }
 
   code_data :
-      FrameFits s f → (x : FunctionCodeFound) {d : DataTelegram} {n : ℕ} → code_of s f.at f.len x ≡ whole (Data d) n
+      FrameFits s f → (x : Option FunctionCode) {d : DataTelegram} {n : ℕ} → code_of s f.at f.len x ≡ whole (Data d) n
       → FramedData s f d n
-  code_data fits (codeFound.Is fc) e = content_data fits fc (rw e at (content_answered s f.at f.len fc))
-  code_data fits codeFound.Nothing e = absurd (zero_one cc)
+  code_data fits (Some fc) e = content_data fits fc (rw e at (content_answered s f.at f.len fc))
+  code_data fits None e = absurd (zero_one cc)
 
   pub framed_data : framing_of s ≡ frame_is f → {d : DataTelegram} {n : ℕ} → read_of s ≡ whole (Data d) n → FramedData s f d n
   framed_data e q = code_data (found_frame s f e) (function_code_of f.code) (sym (frame_reads s f e) ∙ q)
@@ -284,7 +278,7 @@ module _ (s : List ℕ) (f : Frame) where
   -- The other way: a sealed frame with room for its SAPs is read, where its byte is one of a code.
   pub sealed_reads :
       framing_of s ≡ frame_is f → sealed_of f s ≡ true → 3 + saps_at s f.at ≤ f.len
-      → (fc : FunctionCode) → function_code_of f.code ≡ codeFound.Is fc
+      → (fc : FunctionCode) → function_code_of f.code ≡ Some fc
       → read_of s ≡ whole (Data (telegram_at s f.at f.len fc)) f.total
   sealed_reads e sealed saps fc known =
       let fits = found_frame s f e in

@@ -24,6 +24,5 @@ pub mod FrameLaws
 pub mod StreamLaws
 -- every answer of reading, with what is known where it is given
 pub mod Answers
--- lists of bytes; an address byte's top bit
+-- lists of bytes
 pub mod ByteLaws
-pub mod TopBitLaws

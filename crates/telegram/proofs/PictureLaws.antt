@@ -1,4 +1,5 @@
 -- What is read as a telegram begins with its picture, `read_picture`: the way back from DrawnLaws.
+use Rattle.std.proofs.Common.{None, Option, Some}
 use Prim.Native.Nat.{ℕ, ◌+◌, ◌-◌, ◌%◌, ◌<◌, ◌≤◌}
 use mathlib.Core.Bool.{Bool, true, false}
 use mathlib.Core.List.{List, [], ◌∷◌, ◌++◌, append_assoc}
@@ -16,7 +17,6 @@ use Rattle.ground.specs.Bits.{digit}
 use Rattle.codes.specs.FunctionCodes.{function_code_of}
 use Rattle.ground.specs.Part.{part, byte_at}
 use Rattle.codes.specs.declared.function_code.FunctionCode.{FunctionCode}
-use Rattle.codes.specs.declared.function_code.FunctionCodeFound.TheVariants as codeFound
 use Rattle.telegram.proofs.AgreementLaws.{header_same, saps_same}
 use Rattle.telegram.proofs.Answers.{Content, content_whole, Frame, code_known, Answered, confirmation, token_whole, sd1, sd2, sd3}
 use Rattle.telegram.proofs.ByteLaws.{drop_bytes, one_byte, two_more, three_bytes}
@@ -25,10 +25,9 @@ use Rattle.telegram.specs.Begins.{Bytes, document01, StartOf, with_sd1, with_sd2
 use Rattle.codes.specs.Delimiters.{SD1, SD2, SD3, SD4, SC, ED}
 use Rattle.telegram.specs.Picture.{address_byte, sap_bytes, head_with, framed, token_bytes, confirmation_bytes}
 use Rattle.telegram.specs.Reading.{whole, top, sap_at, header_at, saps_at, telegram_at, read_of}
-use Rattle.telegram.specs.declared.header.SapOption.{SapOption}
-use Rattle.telegram.specs.declared.header.SapOption.TheVariants.{Some, None}
 use Rattle.telegram.specs.declared.kinds.Telegram.{Telegram}
 use Rattle.telegram.specs.declared.kinds.Telegram.TheVariants.{Data}
+use Rattle.ground.specs.declared.address.Sap.{Sap}
 
 -- An address byte is its address with the top bit, which its SAP announces.
 address_kept : (a : ℕ) → a < 256 → (s : List ℕ) (at : ℕ) → address_byte (a % 128) (sap_at (top a) s at) ≡ a
@@ -60,14 +59,14 @@ head_taken (a ∷ []) fc byte h = absurd (omega arith)
 head_taken [] fc byte h = absurd (omega arith)
 
 -- Any byte is a SAP's to document 01.
-pub any_sap : (o : SapOption) → SapMayBe document01 o
+pub any_sap : (o : Option Sap) → SapMayBe document01 o
 any_sap (Some sap) = tt
 any_sap None = tt
 
 -- A data telegram that is read from a place, behind a start, is drawn there.
 module _
     (s : List ℕ) (byte : Bytes s) (at l : ℕ) (fc : FunctionCode) (low : 3 ≤ l) (start : StartOf document01 l (take at s))
-    (known : function_code_of (byte_at s (at + 2)) ≡ codeFound.Is fc) (enough : at + l + 2 ≤ length s) (fits : 3 + saps_at s at ≤ l)
+    (known : function_code_of (byte_at s (at + 2)) ≡ Some fc) (enough : at + l + 2 ≤ length s) (fits : 3 + saps_at s at ≤ l)
     (sum : byte_at s (at + l) ≡ checksum_of (part s at (at + l))) (end : byte_at s (at + l + 1) ≡ ED) where
   near : (k : ℕ) → k ≤ 4 → byte_at s (at + k) ≡ byte_at (drop at s) (0 + k)
   near k h = rw zero-add (sym (get_or-drop at s k 0))
@@ -131,7 +130,7 @@ module _
 
 content_drawn :
     {s : List ℕ} (at l : ℕ) → Bytes s → 3 ≤ l → StartOf document01 l (take at s) → (fc : FunctionCode)
-    → at + l + 2 ≤ length s → function_code_of (byte_at s (at + 2)) ≡ codeFound.Is fc
+    → at + l + 2 ≤ length s → function_code_of (byte_at s (at + 2)) ≡ Some fc
     → {t : Telegram} {n : ℕ} → Content s at l fc (whole t n)
     → Begins document01 s t n
 content_drawn {s} at l byte low start fc enough known (content_whole fits sum end) =

@@ -1,4 +1,5 @@
 -- A byte string is refused with a number exactly where document 01 says so: `refused_exactly`.
+use Rattle.std.proofs.Common.{None, Option, Some}
 use Prim.Native.Nat.{ℕ, ◌+◌, ◌<◌, ◌≤◌}
 use mathlib.Core.List.{List}
 use mathlib.Core.Logic.{◌↔◌, inl, inr}
@@ -8,8 +9,6 @@ use lib.ListN.{length}
 use Rattle.codes.proofs.FunctionCodeLaws.{code_reads, read_code}
 use Rattle.codes.specs.FunctionCodes.{function_code_of}
 use Rattle.codes.specs.declared.function_code.FunctionCode.{FunctionCode}
-use Rattle.codes.specs.declared.function_code.FunctionCodeFound.{FunctionCodeFound}
-use Rattle.codes.specs.declared.function_code.FunctionCodeFound.TheVariants as codeFound
 use Rattle.ground.proofs.Injective.{zero_one}
 use Rattle.ground.specs.Part.{byte_at}
 use Rattle.telegram.proofs.Answers.{DataStart, Frame, code_unknown, code_known, sap_missing, sum_differs, end_differs, Answered, unknown, lengths_differ, length_small, sd1, sd2, sd3, answer_is}
@@ -21,19 +20,19 @@ use Rattle.telegram.specs.Refused.{Framed, framed_sd1, framed_sd2, framed_sd3, C
 -- ---- a code's byte
 
 -- A byte that is read is a code's.
-coded : (b : ℕ) → b < 256 → {fc : FunctionCode} → function_code_of b ≡ codeFound.Is fc → Coded b
+coded : (b : ℕ) → b < 256 → {fc : FunctionCode} → function_code_of b ≡ Some fc → Coded b
 coded b h {fc} e = record { fc = fc; its_byte = read_code b h fc e }
 
 -- A byte that is none is not.
-not_coded : (b : ℕ) → function_code_of b ≡ codeFound.Nothing → Coded b → ⊥
+not_coded : (b : ℕ) → function_code_of b ≡ None → Coded b → ⊥
 not_coded b e c = let f = code_reads c.its_byte in zero_one (cc)
 
-no_code_read : (b : ℕ) → b < 256 → (Coded b → ⊥) → function_code_of b ≡ codeFound.Nothing
+no_code_read : (b : ℕ) → b < 256 → (Coded b → ⊥) → function_code_of b ≡ None
 no_code_read b h none = by_found (function_code_of b) refl
   where
-    by_found : (found : FunctionCodeFound) → function_code_of b ≡ found → function_code_of b ≡ codeFound.Nothing
-    by_found (codeFound.Is fc) e = absurd (none (coded b h e))
-    by_found codeFound.Nothing e = e
+    by_found : (found : Option FunctionCode) → function_code_of b ≡ found → function_code_of b ≡ None
+    by_found (Some fc) e = absurd (none (coded b h e))
+    by_found None e = e
 
 -- ---- refused, and why
 

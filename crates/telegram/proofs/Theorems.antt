@@ -1,5 +1,6 @@
 -- The reader and the picture, joined: `read_exactly`; the points in which document 01 is wider than the standard: `only_these_points`,
 -- `beyond_not_standard`; and `same_telegram`, `one_telegram`, `written_back_exactly`.
+use Rattle.std.proofs.Common.{None, Option, Some}
 use Prim.Native.Nat.{ℕ, ◌+◌, ◌<◌, ◌≤◌}
 use mathlib.Core.Bool.{Bool, true, false}
 use mathlib.Core.List.{List, [], ◌∷◌, ◌++◌}
@@ -22,12 +23,11 @@ use Rattle.telegram.specs.Points.{StartBeyond, length_outside, fourth_not68, Sap
 use Rattle.codes.specs.Delimiters.{SD2}
 use Rattle.telegram.specs.Picture.{head_with, telegram_bytes}
 use Rattle.telegram.specs.Reading.{whole, read_of}
-use Rattle.telegram.specs.declared.header.SapOption.{SapOption}
-use Rattle.telegram.specs.declared.header.SapOption.TheVariants.{Some, None}
 use Rattle.telegram.specs.declared.kinds.DataTelegram.{DataTelegram}
 use Rattle.telegram.specs.declared.kinds.Telegram.{Telegram}
 use Rattle.telegram.specs.declared.kinds.Telegram.TheVariants.{Data, Token, ShortConfirmation}
 use Rattle.telegram.specs.declared.kinds.TokenTelegram.{TokenTelegram}
+use Rattle.ground.specs.declared.address.Sap.{Sap}
 
 -- Reading answers a telegram exactly where the bytes begin with the picture of it.
 pub read_exactly :
@@ -62,7 +62,7 @@ code_or_bit7 : {fc : FunctionCode} {code : ℕ} → CodeRead fc code → (code �
 code_or_bit7 as_written = inl refl
 code_or_bit7 bit7_set = inr refl
 
-sap_or_beyond : (o : SapOption) → SapMayBe standard o ⊎ SapBeyond o
+sap_or_beyond : (o : Option Sap) → SapMayBe standard o ⊎ SapBeyond o
 sap_or_beyond None = inl tt
 sap_or_beyond (Some sap) = by_octet (ltb 63 sap.0) refl
   where
@@ -167,7 +167,7 @@ starts_not e (fourth_not68 other) (with_sd2 fits again) = other (ap (λ s. byte_
 start_not : {l : ℕ} {start : List ℕ} → StartBeyond start → StartOf standard l start → ⊥
 start_not beyond may = starts_not refl beyond may
 
-sap_not : {o : SapOption} → SapBeyond o → SapMayBe standard o → ⊥
+sap_not : {o : Option Sap} → SapBeyond o → SapMayBe standard o → ⊥
 sap_not (above63 high) low = omega arith
 
 data_not :

@@ -1,4 +1,5 @@
 -- What a writer writes is a picture under the rules of what is written, `written_draws_written`, and so is read back: `read_after_write`, `pdu_after_write`.
+use Rattle.std.proofs.Common.{None, Option, Some}
 use Prim.Native.Nat.{ℕ, ◌≤◌}
 use mathlib.Core.List.{List, [], ◌∷◌, ◌++◌, append_assoc}
 use mathlib.Core.Path.{◌≡◌, refl, sym, ◌∙◌, ap}
@@ -19,11 +20,10 @@ use Rattle.codes.specs.Delimiters.{SD2, ED}
 use Rattle.telegram.specs.Picture.{head_with, head_bytes, at_front, covered_bytes, length_byte, start_bytes, framed, telegram_bytes, token_bytes, confirmation_bytes}
 use Rattle.telegram.specs.Reading.{whole, read_of}
 use Rattle.telegram.specs.declared.header.DataTelegramHeader.{DataTelegramHeader}
-use Rattle.telegram.specs.declared.header.SapOption.{SapOption}
-use Rattle.telegram.specs.declared.header.SapOption.TheVariants.{Some, None}
 use Rattle.telegram.specs.declared.kinds.DataTelegram.{DataTelegram}
 use Rattle.telegram.specs.declared.kinds.Telegram.TheVariants.{Data, Token, ShortConfirmation}
 use Rattle.telegram.specs.declared.kinds.TokenTelegram.{TokenTelegram}
+use Rattle.ground.specs.declared.address.Sap.{Sap}
 
 -- The start that is written, by any rules that allow its length byte where it has one, and the delimiter again.
 written_start :
@@ -50,7 +50,7 @@ pdu_drawn {d = d} {picture = picture} rest draws =
     let all : picture ++ rest ≡ draws.start ++ head ++ (draws.pdu ++ behind) = ap (λ q. q ++ rest) draws.drawn ∙ framed_parts draws.start head draws.pdu rest in
     rw all (shown_between d.pdu (draws.start ++ head) draws.pdu behind draws.pdu_start draws.pdu_len)
 
-written_sap : (o : SapOption) → SapMayBe written o
+written_sap : (o : Option Sap) → SapMayBe written o
 written_sap (Some sap) = tt
 written_sap None = tt
 

@@ -2,18 +2,17 @@
 -- under the rules of the standard (`standard`), the wider ones of document 01 (`document01`) and those between the two of strict mode (`strict`).
 -- What is said of the standard here is what people of the trade know of it; its text is not at hand. Points.antt names each point in which
 -- document 01 is wider.
-use Rattle.std.specs.Prelude.{ℕ, ◌<◌, ◌≤◌, List, [], ◌∷◌, ◌++◌, ◌≡◌, length}
+use Rattle.std.specs.Prelude.{ℕ, ◌<◌, ◌≤◌, List, [], ◌∷◌, ◌++◌, ◌≡◌, length, None, Option, Some}
 use Rattle.codes.specs.FunctionCodes.{code_byte, CodeRead}
 use Rattle.ground.specs.Part.{byte_at}
 use Rattle.codes.specs.declared.function_code.FunctionCode.{FunctionCode}
 use Rattle.codes.specs.Delimiters.{SD1, SD2, SD3}
 use Rattle.telegram.specs.Picture.{head_with, start_bytes, framed, token_bytes, confirmation_bytes}
-use Rattle.telegram.specs.declared.header.SapOption.{SapOption}
-use Rattle.telegram.specs.declared.header.SapOption.TheVariants.{Some, None}
 use Rattle.telegram.specs.declared.kinds.DataTelegram.{DataTelegram}
 use Rattle.telegram.specs.declared.kinds.Telegram.{Telegram}
 use Rattle.telegram.specs.declared.kinds.Telegram.TheVariants.{Data, Token, ShortConfirmation}
 use Rattle.telegram.specs.declared.kinds.TokenTelegram.{TokenTelegram}
+use Rattle.ground.specs.declared.address.Sap.{Sap}
 
 -- What may stand in a telegram, place by place.
 pub record Rules : Type 1 where
@@ -82,7 +81,7 @@ written =
     }
 
 -- A SAP, where there is one, may be so.
-abbrev pub SapMayBe : Rules → SapOption → Type 0
+abbrev pub SapMayBe : Rules → Option Sap → Type 0
 SapMayBe rules (Some sap) = rules.sap_may_be sap.0
 SapMayBe rules None = Unit
 

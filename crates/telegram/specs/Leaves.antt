@@ -1,12 +1,10 @@
 -- What private functions promise each other: the steps of our reader, which end in `steps_of`. Nothing here has to be believed: no promise
 -- of a public call cites it.
-use Rattle.std.specs.Prelude.{ℕ, ◌+◌, not, List, eqb, ltb, length}
+use Rattle.std.specs.Prelude.{ℕ, ◌+◌, not, List, eqb, ltb, length, None, Option, Some}
 use Rattle.codes.specs.Checksums.{checksum_of}
 use Rattle.codes.specs.Delimiters.{SD1, SD2, SD4, SC, ED}
 use Rattle.codes.specs.FunctionCodes.{function_code_of}
 use Rattle.codes.specs.declared.function_code.FunctionCode.{FunctionCode}
-use Rattle.codes.specs.declared.function_code.FunctionCodeFound.{FunctionCodeFound}
-use Rattle.codes.specs.declared.function_code.FunctionCodeFound.TheVariants as codeFound
 use Rattle.ground.specs.Part.{part, byte_at}
 use Rattle.ground.specs.Pick.{if}
 use Rattle.telegram.specs.Frames.{Framing, frame_is, frame_incomplete, frame_refused, framing_lengths}
@@ -22,9 +20,9 @@ content_of s at l fc =
     (whole (Data (telegram_at s at l fc)) (at + l + 2))))
 
 -- "4. function code: 4"
-abbrev pub code_of : List ℕ → ℕ → ℕ → FunctionCodeFound → Reading
-code_of s at l (codeFound.Is fc) = content_of s at l fc
-code_of s at l codeFound.Nothing = refused 4
+abbrev pub code_of : List ℕ → ℕ → ℕ → Option FunctionCode → Reading
+code_of s at l (Some fc) = content_of s at l fc
+code_of s at l None = refused 4
 
 -- "3. under the total: incomplete": the checksum and the end delimiter stand behind what the length counts
 unfoldable pub frame_of : List ℕ → ℕ → ℕ → Reading

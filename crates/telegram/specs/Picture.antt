@@ -1,22 +1,21 @@
 -- A telegram as the standard draws it, `telegram_bytes`: which bytes it is. Nothing here knows how a reader or a writer goes about it.
 -- (Which byte strings count as a telegram for a reader is said in Begins.antt, with the same pieces.)
-use Rattle.std.specs.Prelude.{ℕ, ◌+◌, List, [], ◌∷◌, ◌++◌, eqb, length}
+use Rattle.std.specs.Prelude.{ℕ, ◌+◌, List, [], ◌∷◌, ◌++◌, eqb, length, None, Option, Some}
 use Rattle.codes.specs.Checksums.{checksum_of}
 use Rattle.codes.specs.FunctionCodes.{code_byte}
 use Rattle.ground.specs.Pick.{if}
 use Rattle.codes.specs.Delimiters.{SD1, SD2, SD3, SD4, SC, ED}
 use Rattle.telegram.specs.declared.header.DataTelegramHeader.{DataTelegramHeader}
-use Rattle.telegram.specs.declared.header.SapOption.{SapOption}
-use Rattle.telegram.specs.declared.header.SapOption.TheVariants.{Some, None}
 use Rattle.telegram.specs.declared.kinds.DataTelegram.{DataTelegram}
+use Rattle.ground.specs.declared.address.Sap.{Sap}
 
 -- an address's byte: its top bit announces a SAP
-abbrev pub address_byte : ℕ → SapOption → ℕ
+abbrev pub address_byte : ℕ → Option Sap → ℕ
 address_byte a (Some sap) = a + 128
 address_byte a None = a
 
 -- a SAP's byte in the content, where there is one
-abbrev pub sap_bytes : SapOption → List ℕ
+abbrev pub sap_bytes : Option Sap → List ℕ
 sap_bytes (Some sap) = sap.0 ∷ []
 sap_bytes None = []
 

@@ -1,14 +1,12 @@
 -- The points in which document 01, as the Rust, reads more than the standard draws: `Beyond`. There is no other, and a telegram of which one
 -- holds is none of the standard's there: `only_these_points` and
 -- `beyond_not_standard` of proofs/Theorems.antt.
-use Rattle.std.specs.Prelude.{ℕ, ◌+◌, ◌<◌, List, [], ◌∷◌, ◌++◌, ◌⊎◌, ◌≡◌}
+use Rattle.std.specs.Prelude.{ℕ, ◌+◌, ◌<◌, List, [], ◌∷◌, ◌++◌, ◌⊎◌, ◌≡◌, Option, Some}
 use Rattle.codes.specs.Delimiters.{SD2}
 use Rattle.codes.specs.FunctionCodes.{code_byte, CodeRead}
 use Rattle.ground.specs.declared.address.Sap.{Sap}
 use Rattle.telegram.specs.Begins.{document01, Draws}
 use Rattle.telegram.specs.Picture.{head_with, framed}
-use Rattle.telegram.specs.declared.header.SapOption.{SapOption}
-use Rattle.telegram.specs.declared.header.SapOption.TheVariants.{Some}
 use Rattle.telegram.specs.declared.kinds.DataTelegram.{DataTelegram}
 use Rattle.telegram.specs.declared.kinds.Telegram.{Telegram}
 use Rattle.telegram.specs.declared.kinds.Telegram.TheVariants.{Data, Token, ShortConfirmation}
@@ -20,7 +18,7 @@ pub data StartBeyond : List ℕ → Type 0 where
   fourth_not68 : {l fourth : ℕ} → (fourth ≡ SD2 → ⊥) → StartBeyond (SD2 ∷ l ∷ l ∷ fourth ∷ [])
 
 -- A SAP's byte above 63.
-pub data SapBeyond : SapOption → Type 0 where
+pub data SapBeyond : Option Sap → Type 0 where
   above63 : {sap : Sap} → 63 < sap.0 → SapBeyond (Some sap)
 
 -- Of a data telegram, by what stands before da and the byte of its function code.

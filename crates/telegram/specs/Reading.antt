@@ -1,6 +1,6 @@
 -- Document 01, "Reading a telegram": the answer to every byte string, `read_of`, as a table in the order in which the document is read. It is what a
 -- reader answers, not how one goes about it: our reader's own steps stand in Leaves.antt, and a law joins the two.
-use Rattle.std.specs.Prelude.{ℕ, ◌+◌, ◌-◌, ◌%◌, Bool, true, false, not, ◌&&◌, List, [], ◌∷◌, eqb, leb, ltb, length}
+use Rattle.std.specs.Prelude.{ℕ, ◌+◌, ◌-◌, ◌%◌, Bool, true, false, not, ◌&&◌, List, [], ◌∷◌, eqb, leb, ltb, length, None, Option, Some}
 use Rattle.codes.specs.Checksums.{checksum_of}
 use Rattle.ground.specs.Bits.{digit}
 use Rattle.codes.specs.FunctionCodes.{function_code_of, is_read}
@@ -8,18 +8,15 @@ use Rattle.ground.specs.Part.{part, byte_at}
 use Rattle.ground.specs.Pick.{if}
 use Rattle.ground.specs.Refusals.{number_of}
 use Rattle.codes.specs.declared.function_code.FunctionCode.{FunctionCode}
-use Rattle.codes.specs.declared.function_code.FunctionCodeFound.{FunctionCodeFound}
-use Rattle.codes.specs.declared.function_code.FunctionCodeFound.TheVariants as codeFound
 use Rattle.codes.specs.Delimiters.{SD1, SD2, SD3, SD4, SC, ED}
 use Rattle.telegram.specs.declared.deserialize.Deserialized.{Deserialized}
 use Rattle.telegram.specs.declared.deserialize.Deserialized.TheVariants as deserialized
 use Rattle.telegram.specs.declared.header.DataTelegramHeader.{DataTelegramHeader}
-use Rattle.telegram.specs.declared.header.SapOption.{SapOption}
-use Rattle.telegram.specs.declared.header.SapOption.TheVariants.{Some, None}
 use Rattle.telegram.specs.declared.kinds.DataTelegram.{DataTelegram}
 use Rattle.telegram.specs.declared.kinds.Telegram.{Telegram}
 use Rattle.telegram.specs.declared.kinds.Telegram.TheVariants.{Data, Token, ShortConfirmation}
 use Rattle.telegram.specs.declared.kinds.TokenTelegram.{TokenTelegram}
+use Rattle.ground.specs.declared.address.Sap.{Sap}
 
 -- the three-way answer: a telegram with its total length, incomplete, or a refusal's number
 pub data Reading : Type 0 where
@@ -38,7 +35,7 @@ abbrev pub top : ℕ → Bool
 top b = leb 128 b
 
 -- the SAP that a byte with top bit needs, at a place
-abbrev pub sap_at : Bool → List ℕ → ℕ → SapOption
+abbrev pub sap_at : Bool → List ℕ → ℕ → Option Sap
 sap_at true s at = Some (record { 0 = byte_at s at })
 sap_at false s at = None
 
@@ -66,9 +63,9 @@ telegram_at s at l fc =
     }
 
 -- the same as an answer, under the code that its byte is read as; checksum and end delimiter stand behind the l bytes
-abbrev pub data_read : List ℕ → ℕ → ℕ → FunctionCodeFound → Reading
-data_read s at l (codeFound.Is fc) = whole (Data (telegram_at s at l fc)) (at + l + 2)
-data_read s at l codeFound.Nothing = refused 4
+abbrev pub data_read : List ℕ → ℕ → ℕ → Option FunctionCode → Reading
+data_read s at l (Some fc) = whole (Data (telegram_at s at l fc)) (at + l + 2)
+data_read s at l None = refused 4
 
 -- "token, da then sa, whole bytes"
 abbrev pub token_at : List ℕ → TokenTelegram

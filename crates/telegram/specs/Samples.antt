@@ -1,17 +1,16 @@
 -- The smallest inputs of the points in which reading takes more than the standard draws: `BeyondTheStandard`.
-use Rattle.std.specs.Prelude.{ℕ, List, [], ◌∷◌, ◌++◌, ◌≡◌, replicate}
+use Rattle.std.specs.Prelude.{ℕ, List, [], ◌∷◌, ◌++◌, ◌≡◌, replicate, None, Option, Some}
 use Rattle.codes.specs.FunctionCodes.{response_code}
 use Rattle.codes.specs.declared.response.ResponseState.TheVariants.{Slave}
 use Rattle.codes.specs.declared.response.ResponseStatus.TheVariants.{Ok}
 use Rattle.telegram.specs.Begins.{standard, Begins}
 use Rattle.telegram.specs.Reading.{whole, read_of}
-use Rattle.telegram.specs.declared.header.SapOption.{SapOption}
-use Rattle.telegram.specs.declared.header.SapOption.TheVariants.{Some, None}
 use Rattle.telegram.specs.declared.kinds.Telegram.{Telegram}
 use Rattle.telegram.specs.declared.kinds.Telegram.TheVariants.{Data, Token}
+use Rattle.ground.specs.declared.address.Sap.{Sap}
 
 -- a telegram to 0 from this source, with these SAPs, state Slave, status Ok
-abbrev from_to : ℕ → SapOption → SapOption → ℕ → ℕ → Telegram
+abbrev from_to : ℕ → Option Sap → Option Sap → ℕ → ℕ → Telegram
 from_to sa dsap ssap start len =
     Data
     (record {

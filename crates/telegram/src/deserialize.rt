@@ -6,14 +6,14 @@ ghost use Rattle.telegram.specs.Leaves.{reading_of, token_of, content_of};
 ghost use Rattle.telegram.specs.Reading.{shown_reading, read_of, header_at, saps_at, sap_at, top};
 
 use crate::frame::{Frame, FrameFound, frame_of, sum_holds};
-use crate::header::{DataTelegramHeader, SapOption};
+use crate::header::DataTelegramHeader;
 use crate::kinds::{DataTelegram, Telegram, TokenTelegram};
-use codes::{FunctionCode, FunctionCodeFound, consts};
+use codes::{FunctionCode, consts};
 use ground::{Address, Part, Refusal, Sap};
 
 // What reading finds: a telegram with its total length, too few bytes to tell, or a refusal of 1 to 7.
-// (Rust's `Option<Result<(Telegram, usize), ()>>`.)
-#[derive(Clone, Copy)]
+// (Document 01: `Option<Result<..>>` becomes a three-way answer; the Rust's is `Option<Result<(Telegram, usize), ()>>`.)
+#[derive(Clone, Copy, Debug, PartialEq, Eq)]
 pub enum Deserialized {
     Telegram(Telegram, usize),
     Incomplete,
@@ -28,6 +28,7 @@ fn announced(address: u8) -> usize
 }
 
 // How many SAP bytes the two addresses at a place announce.
+#[tactic(auto, unfolding(crate::specs::Reading::saps_at))]
 fn saps_at(buffer: &[u8], at: usize) -> usize
     requires { at + 1 < length buffer.now }
     ensures { (result ≡ saps_at buffer.now at) × (result ≤ 2) }
@@ -35,36 +36,36 @@ fn saps_at(buffer: &[u8], at: usize) -> usize
     announced(buffer[at]) + announced(buffer[at + 1])
 }
 
-fn sap_at(buffer: &[u8], address: u8, at: usize) -> SapOption
+fn sap_at(buffer: &[u8], address: u8, at: usize) -> Option<Sap>
     requires { at < length buffer.now }
     ensures { result ≡ sap_at (top address) buffer.now at }
 {
     if address < 128 {
-        SapOption::None
+        None
     } else {
-        SapOption::Some(Sap(buffer[at]))
+        Some(Sap(buffer[at]))
     }
 }
 
 // The header whose da stands at `at`. A byte follows the function code, be it only the checksum, and one more after it.
+#[tactic(auto, unfolding(crate::specs::Reading::header_at))]
 fn header_at(buffer: &[u8], at: usize, fc: FunctionCode) -> DataTelegramHeader
     requires { at + 4 < length buffer.now }
     ensures { result ≡ header_at buffer.now at fc }
 {
     let da = buffer[at];
     let sa = buffer[at + 1];
-    let dsap = sap_at(buffer, da, at + 3);
-    let ssap = sap_at(buffer, sa, at + 3 + announced(da));
     DataTelegramHeader {
         da: Address(da % 128),
         sa: Address(sa % 128),
-        dsap,
-        ssap,
+        dsap: sap_at(buffer, da, at + 3),
+        ssap: sap_at(buffer, sa, at + 3 + announced(da)),
         fc,
     }
 }
 
 // Steps 5 to 7, for `l` bytes from da through the PDU.
+#[tactic(auto, unfolding(crate::specs::Leaves::content_of))]
 fn read_content(buffer: &[u8], at: usize, l: usize, fc: FunctionCode) -> Deserialized
     requires { (3 ≤ l) × (at + l + 2 ≤ length buffer.now) }
     ensures { shown_reading result ≡ content_of buffer.now at l fc }
@@ -78,8 +79,7 @@ fn read_content(buffer: &[u8], at: usize, l: usize, fc: FunctionCode) -> Deseria
     if !sum_holds(buffer, at, end) {
         return Deserialized::Refused(Refusal::Checksum);
     }
-    let last = buffer[end + 1];
-    if last != consts::ED {
+    if buffer[end + 1] != consts::ED {
         return Deserialized::Refused(Refusal::EndDelimiter);
     }
     let h = header_at(buffer, at, fc);
@@ -95,15 +95,14 @@ fn read_framed(buffer: &[u8], frame: Frame) -> Deserialized
     requires { (3 ≤ frame.len) × (frame.at + frame.len + 2 ≤ length buffer.now) }
     ensures { shown_reading result ≡ reading_of buffer.now (frame_is frame) }
 {
-    let at = frame.at;
-    let l = frame.len;
-    let FunctionCodeFound::Is(fc) = FunctionCode::from_byte(frame.code) else {
+    let Some(fc) = FunctionCode::from_byte(frame.code) else {
         return Deserialized::Refused(Refusal::FunctionCode);
     };
-    read_content(buffer, at, l, fc)
+    read_content(buffer, frame.at, frame.len, fc)
 }
 
 // Steps 1 to 3 are the frame's, and so is a start that is none of a data telegram.
+#[tactic(auto, using(crate::proofs::FrameLaws::found_long, crate::proofs::FrameLaws::found_within))]
 fn read_data(buffer: &[u8]) -> Deserialized
     ensures { shown_reading result ≡ reading_of buffer.now (framing_of buffer.now) }
 {
@@ -114,30 +113,27 @@ fn read_data(buffer: &[u8]) -> Deserialized
     }
 }
 
+#[tactic(auto, unfolding(crate::specs::Leaves::token_of))]
 fn read_token(buffer: &[u8]) -> Deserialized
     ensures { shown_reading result ≡ token_of buffer.now }
 {
-    if buffer.len() < 3 {
+    let [_, da, sa, ..] = *buffer else {
         return Deserialized::Incomplete;
-    }
-    let token = TokenTelegram {
-        da: Address(buffer[1]),
-        sa: Address(buffer[2]),
     };
+    let token = TokenTelegram::new(Address(da), Address(sa));
     Deserialized::Telegram(Telegram::Token(token), 3)
 }
 
 impl Telegram {
-    // The telegram that these bytes begin with. (A method's proof stands with its type's: proofs/kinds/Telegram/deserialize.)
+    // The telegram that these bytes begin with.
+    #[tactic(auto, using(crate::proofs::Answers::nothing_read, crate::proofs::Answers::confirmation_read, crate::proofs::Answers::token_start, crate::proofs::FrameLaws::framed_read))]
     pub fn deserialize(buffer: &[u8]) -> Deserialized
         ensures { shown_reading result ≡ read_of buffer.now }
     {
-        if buffer.len() == 0 {
-            return Deserialized::Incomplete;
-        }
-        match buffer[0] {
-            consts::SC => Deserialized::Telegram(Telegram::ShortConfirmation, 1),
-            consts::SD4 => read_token(buffer),
+        match *buffer {
+            [] => Deserialized::Incomplete,
+            [consts::SC, ..] => Deserialized::Telegram(Telegram::ShortConfirmation, 1),
+            [consts::SD4, ..] => read_token(buffer),
             _ => read_data(buffer),
         }
     }

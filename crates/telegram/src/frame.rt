@@ -10,7 +10,7 @@ use codes::consts;
 use ground::Refusal;
 
 // Where a data telegram stands whose bytes are all there.
-#[derive(Clone, Copy)]
+#[derive(Clone, Copy, Debug, PartialEq, Eq)]
 pub struct Frame {
     // Where da stands
     pub at: usize,
@@ -23,7 +23,8 @@ pub struct Frame {
 }
 
 // What is found at the front of bytes: a frame, too few bytes to tell, or a refusal of 1 to 3.
-#[derive(Clone, Copy)]
+// (Document 01: `Option<Result<..>>` becomes a three-way answer.)
+#[derive(Clone, Copy, Debug, PartialEq, Eq)]
 pub enum FrameFound {
     Is(Frame),
     Incomplete,
@@ -31,6 +32,7 @@ pub enum FrameFound {
 }
 
 // Step 3: the checksum and the end delimiter stand behind the `len` bytes.
+#[tactic(auto, unfolding(crate::specs::Frames::framing_at))]
 fn frame_at(bytes: &[u8], at: usize, len: usize) -> FrameFound
     requires { (at ≤ 4) × (3 ≤ len) × (len < 256) }
     ensures { shown_frame result ≡ framing_at bytes.now at len }
@@ -39,16 +41,16 @@ fn frame_at(bytes: &[u8], at: usize, len: usize) -> FrameFound
     if bytes.len() < total {
         return FrameFound::Incomplete;
     }
-    let code = bytes[at + 2];
     FrameFound::Is(Frame {
         at,
         len,
         total,
-        code,
+        code: bytes[at + 2],
     })
 }
 
 // Steps 1 and 2 of an SD2 telegram. The fourth byte is never looked at.
+#[tactic(auto, unfolding(crate::specs::Leaves::framing_long, crate::specs::Frames::framing_lengths))]
 fn frame_long(bytes: &[u8]) -> FrameFound
     ensures { shown_frame result ≡ framing_long bytes.now }
 {
@@ -66,16 +68,15 @@ fn frame_long(bytes: &[u8]) -> FrameFound
 }
 
 // The frame of the data telegram that these bytes begin with. (Of the others step 1 is in step 3: their totals are 6 and 14.)
+#[tactic(auto, using(crate::proofs::FrameLaws::nothing_framing, crate::proofs::FrameLaws::sd1_framing, crate::proofs::FrameLaws::sd2_framing, crate::proofs::FrameLaws::sd3_framing, crate::proofs::FrameLaws::unknown_framing))]
 pub fn frame_of(bytes: &[u8]) -> FrameFound
     ensures { shown_frame result ≡ framing_of bytes.now }
 {
-    if bytes.len() == 0 {
-        return FrameFound::Incomplete;
-    }
-    match bytes[0] {
-        consts::SD1 => frame_at(bytes, 1, 3),
-        consts::SD2 => frame_long(bytes),
-        consts::SD3 => frame_at(bytes, 1, 11),
+    match *bytes {
+        [] => FrameFound::Incomplete,
+        [consts::SD1, ..] => frame_at(bytes, 1, 3),
+        [consts::SD2, ..] => frame_long(bytes),
+        [consts::SD3, ..] => frame_at(bytes, 1, 11),
         _ => FrameFound::Refused(Refusal::UnknownStart),
     }
 }
@@ -90,27 +91,16 @@ pub(crate) fn sum_holds(bytes: &[u8], at: usize, end: usize) -> bool
 
 impl Frame {
     // Whether checksum and end delimiter hold in the bytes that the frame was found in. A frame that these bytes cannot have is not sealed.
+    #[tactic(auto, unfolding(crate::specs::Frames::sealed_of))]
     pub fn is_sealed(self, bytes: &[u8]) -> bool
         ensures { result ≡ sealed_of self bytes.now }
     {
-        let at = self.at;
-        let len = self.len;
         let n = bytes.len();
-        if n < at {
+        // no sum of the frame's own, which might not fit
+        if n < self.at || n - self.at < 2 || n - self.at - 2 < self.len {
             return false;
         }
-        let room = n - at;
-        if room < 2 {
-            return false;
-        }
-        if room - 2 < len {
-            return false;
-        }
-        let end = at + len;
-        let last = bytes[end + 1];
-        if last != consts::ED {
-            return false;
-        }
-        sum_holds(bytes, at, end)
+        let end = self.at + self.len;
+        bytes[end + 1] == consts::ED && sum_holds(bytes, self.at, end)
     }
 }

@@ -1,31 +1,17 @@
-// The header of a data telegram, and an address or a SAP that may be absent.
+// The header of a data telegram.
 use codes::FunctionCode;
 use ground::{Address, Sap};
 
-// A service access point that may be absent: Rust's `Option<u8>`.
-#[derive(Clone, Copy)]
-pub enum SapOption {
-    Some(Sap),
-    None,
-}
-
-// A station's address that may be absent: Rust's `Option<u8>`.
-#[derive(Clone, Copy)]
-pub enum AddressOption {
-    Some(Address),
-    None,
-}
-
-#[derive(Clone, Copy)]
+#[derive(Clone, Copy, Debug, PartialEq, Eq)]
 pub struct DataTelegramHeader {
     // Destination address
     pub da: Address,
     // Source address
     pub sa: Address,
     // Destination service access point
-    pub dsap: SapOption,
+    pub dsap: Option<Sap>,
     // Source service access point
-    pub ssap: SapOption,
+    pub ssap: Option<Sap>,
     // Function code
     pub fc: FunctionCode,
 }

@@ -3,12 +3,12 @@ ghost use Rattle.std.specs.Prelude.{◌≡◌};
 ghost use Rattle.ground.specs.Part.{shown_part};
 ghost use Rattle.telegram.specs.Questions.{source_of, destination_of, status_request_of, response_of};
 
-use crate::header::{AddressOption, DataTelegramHeader};
-use codes::{FunctionCode, RequestType, ResponseStatusFound};
+use crate::header::DataTelegramHeader;
+use codes::{FunctionCode, RequestType, ResponseStatus};
 use ground::{Address, Part};
 
 // A data telegram. Its PDU is a part of the bytes that it was read from.
-#[derive(Clone, Copy)]
+#[derive(Clone, Copy, Debug, PartialEq, Eq)]
 pub struct DataTelegram {
     pub h: DataTelegramHeader,
     pub pdu: Part,
@@ -19,39 +19,33 @@ impl DataTelegram {
     pub fn pdu(self, bytes: &[u8]) -> &[u8]
         ensures { result.now ≡ shown_part self.pdu bytes.now }
     {
-        let pdu = self.pdu;
-        pdu.show(bytes)
+        self.pdu.show(bytes)
     }
 
     // The source address if this telegram is an FDL status request.
-    pub fn is_fdl_status_request(self) -> AddressOption
+    pub fn is_fdl_status_request(self) -> Option<Address>
         ensures { result ≡ status_request_of self }
     {
-        let h = self.h;
-        let fc = h.fc;
-        let FunctionCode::Request { fcb: _, req } = fc else {
-            return AddressOption::None;
-        };
-        if req.number() != RequestType::FdlStatus.number() {
-            return AddressOption::None;
+        match self.h.fc {
+            FunctionCode::Request {
+                req: RequestType::FdlStatus,
+                ..
+            } => Some(self.h.sa),
+            _ => None,
         }
-        let asking = h.sa;
-        AddressOption::Some(asking)
     }
 
-    pub fn is_response(self) -> ResponseStatusFound
+    pub fn is_response(self) -> Option<ResponseStatus>
         ensures { result ≡ response_of self }
     {
-        let h = self.h;
-        let fc = h.fc;
-        match fc {
-            FunctionCode::Request { fcb: _, req: _ } => ResponseStatusFound::Nothing,
-            FunctionCode::Response { state: _, status } => ResponseStatusFound::Is(status),
+        match self.h.fc {
+            FunctionCode::Request { .. } => None,
+            FunctionCode::Response { status, .. } => Some(status),
         }
     }
 }
 
-#[derive(Clone, Copy)]
+#[derive(Clone, Copy, Debug, PartialEq, Eq)]
 pub struct TokenTelegram {
     // Destination address
     pub da: Address,
@@ -67,7 +61,7 @@ impl TokenTelegram {
     }
 }
 
-#[derive(Clone, Copy)]
+#[derive(Clone, Copy, Debug, PartialEq, Eq)]
 pub enum Telegram {
     Data(DataTelegram),
     Token(TokenTelegram),
@@ -75,37 +69,23 @@ pub enum Telegram {
 }
 
 impl Telegram {
-    pub fn source_address(self) -> AddressOption
+    pub fn source_address(self) -> Option<Address>
         ensures { result ≡ source_of self }
     {
         match self {
-            Telegram::Data(t) => {
-                let h = t.h;
-                let sa = h.sa;
-                AddressOption::Some(sa)
-            }
-            Telegram::Token(t) => {
-                let sa = t.sa;
-                AddressOption::Some(sa)
-            }
-            Telegram::ShortConfirmation => AddressOption::None,
+            Telegram::Data(t) => Some(t.h.sa),
+            Telegram::Token(t) => Some(t.sa),
+            Telegram::ShortConfirmation => None,
         }
     }
 
-    pub fn destination_address(self) -> AddressOption
+    pub fn destination_address(self) -> Option<Address>
         ensures { result ≡ destination_of self }
     {
         match self {
-            Telegram::Data(t) => {
-                let h = t.h;
-                let da = h.da;
-                AddressOption::Some(da)
-            }
-            Telegram::Token(t) => {
-                let da = t.da;
-                AddressOption::Some(da)
-            }
-            Telegram::ShortConfirmation => AddressOption::None,
+            Telegram::Data(t) => Some(t.h.da),
+            Telegram::Token(t) => Some(t.da),
+            Telegram::ShortConfirmation => None,
         }
     }
 }

@@ -8,5 +8,5 @@ pub mod kinds;
 
 pub use deserialize::Deserialized;
 pub use frame::{Frame, FrameFound, frame_of};
-pub use header::{AddressOption, DataTelegramHeader, SapOption};
+pub use header::DataTelegramHeader;
 pub use kinds::{DataTelegram, Telegram, TokenTelegram};

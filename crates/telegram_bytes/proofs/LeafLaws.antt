@@ -1,24 +1,18 @@
 -- Laws of what a leaf leaves in the buffer: bytes stored, two writes one behind the other, and a telegram written part by part
 -- (`telegram_stored`).
-use Rattle.std.proofs.Common.{◌≡◌, ℕ, ◌+◌, ◌-◌, ◌%◌, ◌<◌, ◌≤◌, List, [], ◌∷◌, ◌++◌, length, take, drop, set, sym, refl, ◌∙◌, append_assoc, append-nil, add-zero, add_assoc, mod-eq_of_lt, zero-add, add-one, arith, length-append, length-drop, drop_of_length-le, take_all, drop-drop}
+use Rattle.std.proofs.Common.{◌≡◌, ℕ, ◌+◌, ◌<◌, ◌≤◌, List, [], ◌∷◌, ◌++◌, length, get_or, take, drop, set, refl, ◌∙◌, append_assoc, append-nil, add-zero, add_assoc, zero-add, add-one, arith, length-append, drop_of_length-le, take_all, drop-drop}
 use native.Mathlib.Nat.{mod-add-mod}
-use lib.Seq.{sets, sets-eq}
+use lib.Seq.{sets, sets-eq, paste-suc}
+use borrow.Rule.Slice.PartMut.{put_mid}
 use Rattle.ground.proofs.StoreLaws.{stores_then, stores_front}
-use Rattle.codes.proofs.ChecksumLaws.{sum_append, summed_from_0}
+use Rattle.codes.proofs.ChecksumLaws.{sum_append}
 use Rattle.codes.specs.Checksums.{sum_of, checksum_of}
 use Rattle.codes.specs.Delimiters.{ED}
 use Rattle.telegram.specs.Picture.{start_bytes}
-use Rattle.telegram_bytes.specs.Leaves.{Stored, Covers, Fitted, cramped, fitting}
+use Rattle.telegram_bytes.specs.Leaves.{Stored, Covers}
 use Rattle.telegram_bytes.specs.Serialized.{coded_head, coded_length, coded_bytes}
 use Rattle.telegram_bytes.specs.declared.coded.CodedHeader.{CodedHeader}
 use Rattle.telegram_bytes.specs.declared.put.Place.{Place}
-
--- Stores that are written out.
-pub sets_stored : (b : List ℕ) (at : ℕ) (p : List ℕ) → Stored b at p (at + length p) (sets b at p)
-sets_stored b at p = record { next_place = refl; buffer = refl }
-
-pub two_stored : (b : List ℕ) (at x y : ℕ) → Stored b at (x ∷ y ∷ []) (at + 2) (set (set b at x) (at + 1) y)
-two_stored b at x y = rw add-one (sets_stored b at (x ∷ y ∷ []))
 
 -- Two writes one behind the other are one of both.
 pub stored_then :
@@ -45,59 +39,54 @@ pub front_stored :
     → (r ≡ length t) × (after ≡ t ++ drop (length t) b)
 front_stored {b} {t} room x = (rw zero-add at x.next_place, x.buffer ∙ stores_front b t room)
 
--- A place of 0 behind bytes tells that there was no room for them, and any other place that there was.
-pub zero_cramped :
-    {b : List ℕ} {room : ℕ} {p : List ℕ} {r : ℕ} {after : List ℕ} → Fitted b room p r after → 1 ≤ length p → r ≡ 0
-    → (length b < room) × (after ≡ b)
-zero_cramped (cramped short _ same) some none = (short, same)
-zero_cramped (fitting _ x) some none = absurd (omega (arith, x.next_place))
-
-pub past_zero_fitting :
-    {b : List ℕ} {room : ℕ} {p : List ℕ} {r : ℕ} {after : List ℕ} → Fitted b room p r after → (r ≡ 0 → ⊥)
-    → (room ≤ length b) × Stored b 0 p r after
-past_zero_fitting (cramped _ none _) some = absurd (some none)
-past_zero_fitting (fitting fits x) some = (fits, x)
-
--- A byte stored and added.
-pub byte_covered :
-    (b : List ℕ) (place : Place) (x : ℕ) (r : Place) → r.at ≡ place.at + 1 → r.sum ≡ (place.sum + x) % 256
-    → Covers b place (x ∷ []) r (set b place.at x)
+-- What one byte, and no byte, adds to the sum.
+pub byte_summed : (x : ℕ) → sum_of (x ∷ []) ≡ x
 unfolding sum_of
-byte_covered b place x r e f =
-    record { stored = rw e (sets_stored b place.at (x ∷ [])); sum = rw add-zero f }
+byte_summed x = add-zero x
 
--- Nothing written is nothing changed.
-pub nothing_covered : (b : List ℕ) (place : Place) → place.sum < 256 → Covers b place [] place b
+pub nothing_summed : sum_of [] ≡ 0
 unfolding sum_of
-nothing_covered b place h =
-    record {
-      stored = record { next_place = sym (add-zero place.at); buffer = refl };
-      sum = sym (rw add-zero (mod-eq_of_lt h));
-    }
+nothing_summed = refl
 
--- A part from a place to the end is lent, the bytes p go to its front, and it comes back.
+-- What the copying loop keeps: the first i bytes have come, the others are as they were. At the start, with one byte more copied, and at the end.
+pub Copied : List ℕ → List ℕ → ℕ → List ℕ → Type 0
+Copied bytes before i now = now ≡ take i bytes ++ drop i before
+
+pub copy_starts : (bytes before : List ℕ) → Copied bytes before 0 before
+unfolding Copied
+copy_starts bytes before = refl
+
+pub copy_goes_on :
+    (bytes before : List ℕ) (i : ℕ) (now : List ℕ) → i < length bytes → length bytes ≡ length before → Copied bytes before i now
+    → Copied bytes before (i + 1) (set now i (get_or bytes i 0))
+unfolding Copied
+copy_goes_on bytes before i now h l e =
+    rw (e, add-one) (simp zero-add at (paste-suc before 0 bytes i 0 (rw zero-add (omega arith)) h))
+
+pub copy_ends :
+    (bytes before : List ℕ) (i : ℕ) (now : List ℕ) → length bytes ≤ i → length bytes ≡ length before → Copied bytes before i now
+    → now ≡ bytes
+unfolding Copied
+copy_ends bytes before i now l same e =
+    e ∙ rw (take_all i bytes l, drop_of_length-le before {i = i} (omega arith), append-nil)
+
+-- A part is lent, the bytes p are copied into all of it, and it comes back.
 pub part_stored :
-    (b : List ℕ) (at : ℕ) (p part : List ℕ) → at + length p ≤ length b
-    → part ≡ p ++ drop (length p) (take (length b - at) (drop at b))
-    → Stored b at p (at + length p) (take at b ++ (part ++ drop (length b - at) (drop at b)))
-part_stored b at p part h e =
-    let short : length (drop at b) ≤ length b - at = rw length-drop (omega arith) in
-    record {
-      next_place = refl;
-      buffer =
-          rw (e, drop_of_length-le (drop at b) {i = length b - at} short, append-nil, take_all (length b - at) (drop at b) short, drop-drop, sets-eq p b at h, append_assoc);
-    }
+    (b : List ℕ) (at n : ℕ) (p part : List ℕ) → part ≡ p → n ≡ length p → at + length p ≤ length b
+    → put_mid at n b part ≡ sets b at p
+part_stored b at n p part f e h = rw (f, e, drop-drop, sets-eq p b at h, append_assoc)
 
 -- The parts of a data telegram, written one behind the other, are the telegram.
 pub telegram_stored :
-    {b b₁ b₂ b₃ b₄ : List ℕ} {at end : ℕ} {m e : Place} (h : CodedHeader) (pdu : List ℕ)
-    → Stored b 0 (start_bytes (coded_length h pdu)) at b₁
+    {b b₁ b₂ b₃ b₄ : List ℕ} {at end l : ℕ} {m e : Place} (h : CodedHeader) (pdu : List ℕ)
+    → l ≡ coded_length h pdu
+    → Stored b 0 (start_bytes l) at b₁
     → Covers b₁ (record { at = at; sum = 0 }) (coded_head h) m b₂
     → Covers b₂ m pdu e b₃
     → Stored b₃ e.at (e.sum ∷ ED ∷ []) end b₄
     → Stored b 0 (coded_bytes h pdu) end b₄
-unfolding coded_bytes
-telegram_stored {e = e} h pdu start head body tail =
+unfolding coded_bytes checksum_of
+telegram_stored {e = e} h pdu long start head body tail =
     let covered = covers_then head body in
-    let checksum : e.sum ≡ checksum_of (coded_head h ++ pdu) = covered.sum ∙ summed_from_0 (coded_head h ++ pdu) in
-    rw (← checksum) (stored_then (stored_then start covered.stored) tail)
+    let checksum : e.sum ≡ checksum_of (coded_head h ++ pdu) = covered.sum ∙ rw zero-add in
+    rw (← checksum, ← long) (stored_then (stored_then start covered.stored) tail)

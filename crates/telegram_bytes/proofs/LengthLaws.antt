@@ -41,9 +41,6 @@ pub any_start :
 unfolding start_bytes
 any_start P l sd1 sd3 sd2 = picked P (eqb l 3) (λ e. sd1) (λ e. picked P (eqb l 11) (λ f. sd3) (λ f. sd2))
 
-pub start_some : (l : ℕ) → 1 ≤ length (start_bytes l)
-start_some l = any_start (λ s. 1 ≤ length s) l (lit≤ tt) (lit≤ tt) (lit≤ tt)
-
 pub start_short : (l : ℕ) → length (start_bytes l) ≤ 4
 start_short l = any_start (λ s. length s ≤ 4) l (lit≤ tt) (lit≤ tt) (lit≤ tt)
 

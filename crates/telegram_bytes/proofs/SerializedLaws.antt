@@ -1,13 +1,15 @@
 -- Laws of the answer and of the buffer that is left: one for each refusal, and one for what is written.
-use Rattle.std.proofs.Common.{◌≡◌, ℕ, ◌<◌, ◌≤◌, List, ◌++◌, length, drop, sym, refl, ap, le-ltb, lt-ltb}
+use Rattle.std.proofs.Common.{◌≡◌, ℕ, ◌<◌, ◌≤◌, List, ◌++◌, length, drop, sym, refl, ap, ◌∙◌, le-ltb, lt-ltb, Err, None, Ok, Option, Result, Some, ok_or}
 use mathlib.Core.Bool.{or-true}
 use Rattle.ground.proofs.Injective.{injective}
 use Rattle.ground.proofs.RefusalLaws.{refusal_of, refusal_again}
 use Rattle.ground.specs.Refusals.{OrRefused, gives, refused}
+use Rattle.ground.specs.declared.refusal.Refusal.TheVariants.{NoRoom}
+use Rattle.telegram_bytes.proofs.LeafLaws.{front_stored}
+use Rattle.telegram_bytes.specs.Leaves.{Fitted}
 use Rattle.telegram_bytes.specs.Serialized.{coded_length, coded_bytes, shown_serialized, serialize_of, front_of, serialized_to}
 use Rattle.telegram_bytes.specs.declared.coded.CodedHeader.{CodedHeader}
-use Rattle.telegram_bytes.specs.declared.serialized.Serialized.{Serialized}
-use Rattle.telegram_bytes.specs.declared.serialized.Serialized.TheVariants.{Bytes, Refused}
+use Rattle.ground.specs.declared.refusal.Refusal.{Refusal}
 
 -- A refused call leaves the buffer as it came; what is written stands at its front.
 stays : (n : ℕ) (w : OrRefused ℕ) (t buf : List ℕ) → w ≡ refused n → (refused n ≡ w) × (buf ≡ front_of w t buf)
@@ -65,14 +67,25 @@ module _ (h : CodedHeader) (pdu buf : List ℕ) where
           → (gives n ≡ serialize_of h pdu (length buf)) × (after ≡ serialized_to h pdu buf)
       written n after e p f = stands n _ (coded_bytes h pdu) buf after (rw e (is_written p)) f
 
+      -- The room decides between the two: what was fitted, or not, into the buffer is what is written or refused.
+      pub fitted_serialized :
+          (r : Option ℕ) {after : List ℕ} {answer : Result ℕ Refusal}
+          → Fitted buf (length (coded_bytes h pdu)) (coded_bytes h pdu) r after → answer ≡ ok_or r NoRoom
+          → (shown_serialized answer ≡ serialize_of h pdu (length buf)) × (after ≡ serialized_to h pdu buf)
+      fitted_serialized None x e = let refusal = refused_10 x.0 in (rw e refusal.0, x.1 ∙ refusal.1)
+      fitted_serialized (Some n) {after} x e =
+          let fitted = front_stored x.0 x.1 in
+          let answer = written n after fitted.0 x.0 fitted.1 in
+          (rw e answer.0, answer.1)
+
 -- What is answered is the one that its answer, as it is shown, leads back to.
-abbrev serialized_back : OrRefused ℕ → Serialized
-serialized_back (gives n) = Bytes n
-serialized_back (refused n) = Refused (refusal_of n)
+abbrev serialized_back : OrRefused ℕ → Result ℕ Refusal
+serialized_back (gives n) = Ok n
+serialized_back (refused n) = Err (refusal_of n)
 
-serialized_again : (x : Serialized) → serialized_back (shown_serialized x) ≡ x
-serialized_again (Bytes n) = refl
-serialized_again (Refused r) = ap Refused (refusal_again r)
+serialized_again : (x : Result ℕ Refusal) → serialized_back (shown_serialized x) ≡ x
+serialized_again (Ok n) = refl
+serialized_again (Err r) = ap Err (refusal_again r)
 
-pub shown_serialized_injective : (x y : Serialized) → shown_serialized x ≡ shown_serialized y → x ≡ y
+pub shown_serialized_injective : (x y : Result ℕ Refusal) → shown_serialized x ≡ shown_serialized y → x ≡ y
 shown_serialized_injective = injective shown_serialized serialized_back serialized_again

@@ -1,6 +1,6 @@
 -- What private functions promise each other. Nothing here has to be believed: no promise of a public call cites it.
 -- What a leaf that writes into the buffer leaves there: `Stored`, `Covers`, `Fitted`; and what `put_telegram` asks for: `Writable`.
-use Rattle.std.specs.Prelude.{◌≡◌, ℕ, ◌+◌, ◌%◌, ◌<◌, ◌≤◌, List, length}
+use Rattle.std.specs.Prelude.{◌≡◌, ℕ, ◌+◌, ◌%◌, ◌<◌, ◌≤◌, List, length, None, Option, Some}
 use Rattle.std.proofs.lemmas.List.Edits.{sets}
 use Rattle.codes.specs.Checksums.{sum_of}
 use Rattle.telegram_bytes.specs.Serialized.{coded_length}
@@ -17,10 +17,10 @@ pub record Covers (before : List ℕ) (place : Place) (p : List ℕ) (next : Pla
   pub stored : Stored before place.at p next.at after
   pub sum : next.sum ≡ (place.sum + sum_of p) % 256
 
--- the bytes p at the buffer's front where it has so much room, and the place behind them; else nothing, and the place 0
-pub data Fitted (before : List ℕ) (room : ℕ) (p : List ℕ) (next : ℕ) (after : List ℕ) : Type 0 where
-  cramped : length before < room → next ≡ 0 → after ≡ before → Fitted before room p next after
-  fitting : room ≤ length before → Stored before 0 p next after → Fitted before room p next after
+-- the bytes p at the buffer's front where it has so much room, and the place behind them; else nothing
+abbrev pub Fitted : List ℕ → ℕ → List ℕ → Option ℕ → List ℕ → Type 0
+Fitted before room p None after = (length before < room) × (after ≡ before)
+Fitted before room p (Some next) after = (room ≤ length before) × Stored before 0 p next after
 
 -- what is known where a data telegram is written: its addresses and its length byte
 pub record Writable (h : CodedHeader) (pdu : List ℕ) (l : ℕ) : Type 0 where

@@ -1,12 +1,11 @@
 -- Document 01, "Writing", of a header that has the byte of its function code: the telegram's bytes, `coded_bytes`; what is answered,
 -- `serialize_of`, and the whole buffer that is left, `serialized_to`.
-use Rattle.std.specs.Prelude.{ℕ, ◌||◌, List, ◌∷◌, ◌++◌, length, drop, nat_lt}
+use Rattle.std.specs.Prelude.{ℕ, ◌||◌, List, ◌∷◌, ◌++◌, length, drop, nat_lt, Err, Ok, Result}
 use Rattle.ground.specs.Pick.{if}
 use Rattle.ground.specs.Refusals.{OrRefused, gives, refused, number_of}
 use Rattle.telegram.specs.Picture.{address_byte, sap_bytes, start_bytes, framed}
 use Rattle.telegram_bytes.specs.declared.coded.CodedHeader.{CodedHeader}
-use Rattle.telegram_bytes.specs.declared.serialized.Serialized.{Serialized}
-use Rattle.telegram_bytes.specs.declared.serialized.Serialized.TheVariants.{Bytes, Refused}
+use Rattle.ground.specs.declared.refusal.Refusal.{Refusal}
 
 -- the picture's `head_bytes`, `length_byte` and `telegram_bytes`, of a header whose function code is a byte
 unfoldable pub coded_head : CodedHeader → List ℕ
@@ -23,9 +22,9 @@ unfoldable pub coded_bytes : CodedHeader → List ℕ → List ℕ
 coded_bytes h pdu = framed (start_bytes (coded_length h pdu)) (coded_head h ++ pdu)
 
 -- what is answered, with document 01's number
-abbrev pub shown_serialized : Serialized → OrRefused ℕ
-shown_serialized (Bytes n) = gives n
-shown_serialized (Refused refusal) = refused (number_of refusal)
+abbrev pub shown_serialized : Result ℕ Refusal → OrRefused ℕ
+shown_serialized (Ok n) = gives n
+shown_serialized (Err refusal) = refused (number_of refusal)
 
 -- "da or sa above 127": 8; "length byte above 249": 9; "buffer too short": 10; else the telegram's length
 unfoldable pub serialize_of : CodedHeader → List ℕ → ℕ → OrRefused ℕ

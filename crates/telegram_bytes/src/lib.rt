@@ -7,4 +7,4 @@ mod put;
 pub mod serialized;
 
 pub use coded::CodedHeader;
-pub use serialized::{Serialized, serialize};
+pub use serialized::serialize;

@@ -1,13 +1,15 @@
-// The leaves that write into the buffer, each at a place, and give the next. Promise, among private functions: `Covers` in
+// The leaves that write into the buffer: methods of the place that each writes at, which give the next. Promise, among private functions: `Covers` in
 // specs/Leaves.antt.
-ghost use Rattle.std.specs.Prelude.{◌≡◌, ◌+◌, ◌%◌, ◌≤◌, [], ◌∷◌, ◌++◌, length, drop};
+ghost use Rattle.std.specs.Prelude.{◌≡◌, ◌+◌, ◌%◌, ◌≤◌, [], ◌∷◌, length};
 ghost use Rattle.codes.specs.Checksums.{sum_of};
+ghost use Rattle.codes.specs.Delimiters.{ED};
 ghost use Rattle.telegram.specs.Picture.{address_byte, sap_bytes};
-ghost use Rattle.telegram_bytes.specs.Leaves.{Covers};
+ghost use Rattle.telegram_bytes.specs.Leaves.{Stored, Covers};
+ghost use Rattle.telegram_bytes.specs.Serialized.{coded_head};
 
-use ground::Address;
-use std::num::wrapping_add_u8;
-use telegram::SapOption;
+use crate::coded::CodedHeader;
+use codes::consts::ED;
+use ground::{Address, Sap};
 
 // The next place to write at, and the wrapping sum of what was written from da on.
 #[derive(Clone, Copy)]
@@ -16,64 +18,87 @@ pub struct Place {
     pub sum: u8,
 }
 
-pub(crate) fn put_byte(buf: &mut [u8], place: Place, b: u8) -> Place
-    requires { place.at + 1 ≤ length buf.old }
-    ensures { Covers buf.old place (b ∷ []) result buf.new }
-{
-    let at = place.at;
-    buf[at] = b;
-    Place {
-        at: at + 1,
-        sum: wrapping_add_u8(place.sum, b),
+impl Place {
+    #[tactic(auto, using(crate::proofs::LeafLaws::byte_summed))]
+    fn put_byte(self, buf: &mut [u8], b: u8) -> Place
+        requires { self.at + 1 ≤ length buf.old }
+        ensures { Covers buf.old self (b ∷ []) result buf.new }
+    {
+        buf[self.at] = b;
+        Place {
+            at: self.at + 1,
+            sum: self.sum.wrapping_add(b),
+        }
+    }
+
+    // An address, whose top bit announces its SAP.
+    fn put_address(self, buf: &mut [u8], address: Address, sap: Option<Sap>) -> Place
+        requires { (address.0 ≤ 127) × (self.at + 1 ≤ length buf.old) }
+        ensures { Covers buf.old self (address_byte address.0 sap ∷ []) result buf.new }
+    {
+        match sap {
+            Some(_) => self.put_byte(buf, address.0 + 128),
+            None => self.put_byte(buf, address.0),
+        }
+    }
+
+    #[tactic(auto, using(crate::proofs::LeafLaws::nothing_summed))]
+    fn put_sap(self, buf: &mut [u8], sap: Option<Sap>) -> Place
+        requires { self.at + length (sap_bytes sap) ≤ length buf.old }
+        ensures { Covers buf.old self (sap_bytes sap) result buf.new }
+    {
+        match sap {
+            Some(number) => self.put_byte(buf, number.0),
+            None => self,
+        }
+    }
+
+    // da, sa and fc, then the SAPs.
+    #[tactic(auto, using(crate::proofs::LengthLaws::head_length))]
+    pub(crate) fn put_head(self, buf: &mut [u8], header: CodedHeader) -> Place
+        requires { (header.da.0 ≤ 127) × (header.sa.0 ≤ 127) × (self.at + length (coded_head header) ≤ length buf.old) }
+        ensures { Covers buf.old self (coded_head header) result buf.new }
+    {
+        self.put_address(buf, header.da, header.dsap)
+            .put_address(buf, header.sa, header.ssap)
+            .put_byte(buf, header.code)
+            .put_sap(buf, header.dsap)
+            .put_sap(buf, header.ssap)
+    }
+
+    // The part of the buffer behind the header is lent to the copying leaf.
+    #[tactic(auto, using(crate::proofs::LeafLaws::part_stored))]
+    pub(crate) fn put_pdu(self, buf: &mut [u8], pdu: &[u8]) -> Place
+        requires { self.at + length pdu.now ≤ length buf.old }
+        ensures { Covers buf.old self pdu.now result buf.new }
+    {
+        let end = self.at + pdu.len();
+        let sum = copy_sum(pdu, self.sum, &mut buf[self.at..end]);
+        Place { at: end, sum }
+    }
+
+    // The checksum and the end delimiter. Gives the place behind them.
+    pub(crate) fn put_end(self, buf: &mut [u8]) -> usize
+        requires { self.at + 2 ≤ length buf.old }
+        ensures { Stored buf.old self.at (self.sum ∷ ED ∷ []) result buf.new }
+    {
+        buf[self.at] = self.sum;
+        buf[self.at + 1] = ED;
+        self.at + 2
     }
 }
 
-// An address, whose top bit announces its SAP.
-pub(crate) fn put_address(buf: &mut [u8], place: Place, address: Address, sap: SapOption) -> Place
-    requires { (address.0 ≤ 127) × (place.at + 1 ≤ length buf.old) }
-    ensures { Covers buf.old place (address_byte address.0 sap ∷ []) result buf.new }
-{
-    match sap {
-        SapOption::Some(_) => put_byte(buf, place, address.0 + 128),
-        SapOption::None => put_byte(buf, place, address.0),
-    }
-}
-
-pub(crate) fn put_sap(buf: &mut [u8], place: Place, sap: SapOption) -> Place
-    requires { place.at + length (sap_bytes sap) ≤ length buf.old }
-    ensures { Covers buf.old place (sap_bytes sap) result buf.new }
-{
-    match sap {
-        SapOption::Some(number) => put_byte(buf, place, number.0),
-        SapOption::None => place,
-    }
-}
-
-// Copies and sums in one loop: the bytes just written are not read again for the checksum.
+// Copies and sums in one loop: the bytes just written are not read again for the checksum. (`copy_from_slice` beside `checksum`, tried, takes
+// 10 to 20 instructions more and a call of C's memcpy.)
+#[tactic(auto, using(crate::proofs::LeafLaws::copy_starts, crate::proofs::LeafLaws::copy_goes_on, crate::proofs::LeafLaws::copy_ends, codes::proofs::ChecksumLaws::sum_starts, codes::proofs::ChecksumLaws::sum_goes_on, codes::proofs::ChecksumLaws::sum_ends))]
 fn copy_sum(src: &[u8], sum: u8, dst: &mut [u8]) -> u8
-    requires { length src.now ≤ length dst.old }
-    ensures { (result ≡ (sum + sum_of src.now) % 256)
-        × (dst.new ≡ src.now ++ drop (length src.now) dst.old) }
+    requires { length src.now ≡ length dst.old }
+    ensures { (result ≡ (sum + sum_of src.now) % 256) × (dst.new ≡ src.now) }
 {
     let mut total = sum;
-    let mut i = 0;
-    while i < src.len() {
-        dst[i] = src[i];
-        total = wrapping_add_u8(total, src[i]);
-        i += 1;
+    for (i, &b) in src.iter().enumerate() {
+        dst[i] = b;
+        total = total.wrapping_add(b);
     }
     total
-}
-
-// The part of the buffer behind the header is lent to the copying leaf.
-pub(crate) fn put_pdu(buf: &mut [u8], place: Place, pdu: &[u8]) -> Place
-    requires { place.at + length pdu.now ≤ length buf.old }
-    ensures { Covers buf.old place pdu.now result buf.new }
-{
-    let at = place.at;
-    let sum = copy_sum(pdu, place.sum, &mut buf[at..]);
-    Place {
-        at: at + pdu.len(),
-        sum,
-    }
 }

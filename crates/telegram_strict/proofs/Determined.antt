@@ -1,8 +1,8 @@
 -- No second outcome fits the promise of a public call of `telegram_strict`: two outcomes that its promise allows are the same.
 use mathlib.Core.Path.{refl}
-use Rattle.ground.proofs.DeterminedLaws.{fixed, seen}
+use Rattle.ground.proofs.DeterminedLaws.{seen}
 use Rattle.ground.specs.Determined.{Determined}
-use Rattle.telegram_strict.proofs.ModeLaws.{shown_in_injective}
+use Rattle.telegram_strict.proofs.ModeLaws.{shown_in_injective, shown_start_injective}
 use Rattle.telegram_strict.specs.contracts.strict.deserialize_in as deserialize_in
 use Rattle.telegram_strict.proofs.strict.deserialize_in.Reads as deserialize_in_reads
 use Rattle.telegram_strict.specs.contracts.strict.deserialize_strict as deserialize_strict
@@ -18,7 +18,7 @@ pub record Calls : Type 0 where
 pub determined : Calls
 determined =
     record {
-      strict_start = fixed (λ κs a u v. refl);
+      strict_start = seen (λ κs. shown_start_injective) (λ κs a u v. refl);
       deserialize_strict = seen (λ κs. shown_in_injective) (λ κs a u v. refl);
       deserialize_in = seen (λ κs. shown_in_injective) (λ κs a u v. refl);
     }

@@ -1,10 +1,12 @@
 -- Either mode, for callers that take it as an argument: what it reads the default reads, `mode_alike`; it advances; its refusals' numbers; and that two
--- answers that are shown alike are alike, `shown_in_injective`.
+-- answers that are shown alike are alike, `shown_in_injective` and `shown_start_injective`.
+use Rattle.std.proofs.Common.{Err, Ok, Result, eqb}
 use Prim.Native.Nat.{ℕ, ◌≤◌}
 use mathlib.Core.List.{List}
 use mathlib.Core.Path.{◌≡◌, refl}
 use native.Mathlib.Omega.{arith}
 use Rattle.ground.proofs.Injective.{injective}
+use Rattle.ground.specs.Pick.{if}
 use Rattle.telegram.proofs.ReadingLaws.{refused_numbered}
 use Rattle.telegram.proofs.StreamLaws.{Advances, reading_advances}
 use Rattle.telegram.specs.Reading.{Reading, whole, incomplete, refused, read_of}
@@ -12,11 +14,13 @@ use Rattle.telegram.specs.declared.kinds.Telegram.{Telegram}
 use Rattle.telegram_strict.proofs.StartLaws.{StrictFor, sloppy, default, strict_for}
 use Rattle.telegram_strict.proofs.Theorems.{strict_alike, strict_advances}
 use Rattle.telegram_strict.specs.Sloppy.{length_outside, fourth_not68}
-use Rattle.telegram_strict.specs.Strict.{read_in, shown_in}
+use Rattle.telegram_strict.specs.Strict.{read_in, shown_in, shown_start}
 use Rattle.telegram_strict.specs.declared.strict.DeserializedIn.{DeserializedIn}
 use Rattle.telegram_strict.specs.declared.strict.DeserializedIn.TheVariants as deserialized
 use Rattle.telegram_strict.specs.declared.strict.Mode.{Mode}
 use Rattle.telegram_strict.specs.declared.strict.Mode.TheVariants.{Default, Strict}
+use Rattle.telegram_strict.specs.declared.strict.Sloppiness.{Sloppiness}
+use Rattle.telegram_strict.specs.declared.strict.Sloppiness.TheVariants.{LengthNotStandard, FourthByte}
 
 pub mode_alike : (mode : Mode) (s : List ℕ) {t : Telegram} {n : ℕ} → read_in mode s ≡ whole t n → read_of s ≡ whole t n
 mode_alike Default s e = e
@@ -48,3 +52,15 @@ answer_again (deserialized.Refused number) = refl
 
 pub shown_in_injective : (x y : DeserializedIn) → shown_in x ≡ shown_in y → x ≡ y
 shown_in_injective = injective shown_in answer_back answer_again
+
+-- So is what judging a start answers.
+abbrev start_back : ℕ → Result Unit Sloppiness
+start_back n = if (eqb n 0) (Ok tt) (Err (if (eqb n 24) LengthNotStandard FourthByte))
+
+start_again : (x : Result Unit Sloppiness) → start_back (shown_start x) ≡ x
+start_again (Ok tt) = refl
+start_again (Err LengthNotStandard) = refl
+start_again (Err FourthByte) = refl
+
+pub shown_start_injective : (x y : Result Unit Sloppiness) → shown_start x ≡ shown_start y → x ≡ y
+shown_start_injective = injective shown_start start_back start_again

@@ -1,93 +1,57 @@
 -- Laws of the start in strict mode: `start_of` where its tests are decided; what is known where strict mode has nothing against it and where it has,
 -- `start_for`; and what it then answers, `strict_for`.
 use Prim.Native.Nat.{ℕ, ◌<◌, ◌≤◌}
-use mathlib.Core.Bool.{Bool, true, false, not, ◌&&◌}
+use mathlib.Core.Bool.{true, false, not, ◌&&◌}
 use mathlib.Core.List.{List}
 use mathlib.Core.Logic.{◌⊎◌, inl, inr}
 use mathlib.Core.Path.{◌≡◌, refl, sym}
 use native.Mathlib.Omega.{arith}
-use lib.Dec.{eqb, leb}
+use lib.Dec.{leb}
 use lib.ListN.{length}
-use borrow.Author.Tests.{leb-true, leb-false, eqb-true, eqb-false, not-true, not-false, le-leb, lt-leb, eq-eqb, ne_eqb}
+use borrow.Author.Tests.{eqb-true, eqb-false, not-true, not-false, le-leb, lt-leb, eq-eqb, ne_eqb}
 use Rattle.codes.specs.Delimiters.{SD2}
 use Rattle.ground.proofs.Injective.{zero_one}
 use Rattle.ground.proofs.PickLaws.{picked}
 use Rattle.ground.specs.Part.{byte_at}
 use Rattle.telegram.specs.Reading.{Reading, refused, read_of}
 use Rattle.telegram_strict.specs.Sloppy.{LengthsHold, Sloppy, length_outside, fourth_not68, Neat}
+use Rattle.std.proofs.lemmas.Grind.{common_steps}
 use Rattle.telegram_strict.specs.Strict.{past_lengths, length_is_standard, fourth_is68, start_of, strict_of}
 
 -- ---- the start's number, where the tests are decided
 
 module _ (s : List ℕ) where
-  pub start_elsewhere : past_lengths s ≡ false → start_of s ≡ 0
-  unfolding start_of
-  start_elsewhere e = rw e
-
-  pub start_short : past_lengths s ≡ true → byte_at s 1 < 4 → start_of s ≡ 24
+  start_short : past_lengths s ≡ true → byte_at s 1 < 4 → start_of s ≡ 24
   unfolding start_of
   start_short e h = rw (e, lt-leb _ _ h)
 
-  pub start_long : past_lengths s ≡ true → 4 ≤ byte_at s 1 → 249 < byte_at s 1 → start_of s ≡ 24
+  start_long : past_lengths s ≡ true → 4 ≤ byte_at s 1 → 249 < byte_at s 1 → start_of s ≡ 24
   unfolding start_of
   start_long e h k = rw (e, le-leb _ _ h, lt-leb _ _ k)
 
-  pub start_fourth : past_lengths s ≡ true → 4 ≤ byte_at s 1 → byte_at s 1 ≤ 249 → (byte_at s 3 ≡ SD2 → ⊥) → start_of s ≡ 25
+  start_fourth : past_lengths s ≡ true → 4 ≤ byte_at s 1 → byte_at s 1 ≤ 249 → (byte_at s 3 ≡ SD2 → ⊥) → start_of s ≡ 25
   unfolding start_of
   start_fourth e h k d = rw (e, le-leb _ _ h, le-leb _ _ k, ne_eqb _ _ d)
 
-  pub start_neat : past_lengths s ≡ true → 4 ≤ byte_at s 1 → byte_at s 1 ≤ 249 → byte_at s 3 ≡ SD2 → start_of s ≡ 0
-  unfolding start_of
-  start_neat e h k d = rw (e, le-leb _ _ h, le-leb _ _ k, eq-eqb _ _ d)
-
 -- ---- refusals 2 and 3 are past
-
-and_first : (a b : Bool) → (a && b) ≡ true → a ≡ true
-and_first true b e = refl
-and_first false b e = e
-
-and_second : (a b : Bool) → (a && b) ≡ true → b ≡ true
-and_second true b e = e
-and_second false b e = absurd (zero_one (cc))
-
-all_four : (a b c d : Bool) → (a && (b && (c && d))) ≡ true → (a ≡ true) × (b ≡ true) × (c ≡ true) × (d ≡ true)
-all_four a b c d e =
-    let x = and_second a (b && (c && d)) e in
-    let y = and_second b (c && d) x in
-    (and_first a (b && (c && d)) e, and_first b (c && d) x, and_first c d y, and_second c d y)
 
 pub past_hold : (s : List ℕ) → past_lengths s ≡ true → LengthsHold s
 unfolding past_lengths
 past_hold s e =
-    let all = all_four (leb 6 (length s)) (eqb (byte_at s 0) SD2) (eqb (byte_at s 1) (byte_at s 2)) (leb 3 (byte_at s 1)) e in
     record {
-      six = leb-true _ _ all.0;
-      delimiter = eqb-true _ _ all.1;
-      agree = eqb-true _ _ all.2;
-      three = leb-true _ _ all.3;
+      six = grind (arith, common_steps);
+      delimiter = grind (arith, common_steps);
+      agree = grind (arith, common_steps);
+      three = grind (arith, common_steps);
     }
+
+-- so the fourth byte is there
+pub past_six : (s : List ℕ) → past_lengths s ≡ true → 6 ≤ length s
+past_six s e = (past_hold s e).six
 
 pub hold_past : {s : List ℕ} → LengthsHold s → past_lengths s ≡ true
 unfolding past_lengths
 hold_past h = rw (le-leb _ _ h.six, eq-eqb _ _ h.delimiter, eq-eqb _ _ h.agree, le-leb _ _ h.three)
-
--- by each of its tests, where those before it hold; the last decides
-module _ (s : List ℕ) where
-  pub past_short : length s < 6 → past_lengths s ≡ false
-  unfolding past_lengths
-  past_short h = rw (lt-leb _ _ h)
-
-  pub past_other : 6 ≤ length s → (byte_at s 0 ≡ SD2 → ⊥) → past_lengths s ≡ false
-  unfolding past_lengths
-  past_other h d = rw (le-leb _ _ h, ne_eqb _ _ d)
-
-  pub past_differ : 6 ≤ length s → byte_at s 0 ≡ SD2 → (byte_at s 1 ≡ byte_at s 2 → ⊥) → past_lengths s ≡ false
-  unfolding past_lengths
-  past_differ h d e = rw (le-leb _ _ h, eq-eqb _ _ d, ne_eqb _ _ e)
-
-  pub past_by_length : 6 ≤ length s → byte_at s 0 ≡ SD2 → byte_at s 1 ≡ byte_at s 2 → leb 3 (byte_at s 1) ≡ past_lengths s
-  unfolding past_lengths
-  past_by_length h d e = rw (le-leb _ _ h, eq-eqb _ _ d, eq-eqb _ _ e)
 
 -- ---- the reason for the start's number
 
@@ -98,11 +62,7 @@ pub data StartFor (s : List ℕ) : ℕ → Type 0 where
 
 -- L outside 4 to 249, where it is not below 3
 outside : (l : ℕ) → 3 ≤ l → (leb 4 l && leb l 249) ≡ false → (l ≡ 3) ⊎ (249 < l)
-outside l low = by_low (leb 4 l) refl
-  where
-    by_low : (t : Bool) → leb 4 l ≡ t → (t && leb l 249) ≡ false → (l ≡ 3) ⊎ (249 < l)
-    by_low true e f = inr (leb-false _ _ f)
-    by_low false e f = inl (omega (arith, leb-false 4 l e))
+outside l low e = grind (arith, common_steps)
 
 -- no start is sloppy where refusals 2 and 3 are not past, nor where L and the fourth byte are the standard's
 elsewhere_neat : (s : List ℕ) → past_lengths s ≡ false → Neat s
@@ -121,8 +81,8 @@ start_for s =
     (λ e. let h = past_hold s (not-false _ e) in
     picked (StartFor s) (not (length_is_standard s))
     (λ f. against (length_outside h (outside (byte_at s 1) h.three (not-true _ f))))
-    (λ f. let low = leb-true _ _ (and_first (leb 4 (byte_at s 1)) (leb (byte_at s 1) 249) (not-false _ f)) in
-    let high = leb-true _ _ (and_second (leb 4 (byte_at s 1)) (leb (byte_at s 1) 249) (not-false _ f)) in
+    (λ f. let low : 4 ≤ byte_at s 1 = grind (arith, common_steps) in
+    let high : byte_at s 1 ≤ 249 = grind (arith, common_steps) in
     picked (StartFor s) (not (fourth_is68 s))
     (λ g. against (fourth_not68 h low high (eqb-false _ _ (not-true _ g))))
     (λ g. nothing (standard_neat low high (eqb-true _ _ (not-false _ g))))))

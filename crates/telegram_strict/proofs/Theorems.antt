@@ -1,6 +1,7 @@
 -- Strict mode beside the picture: it reads exactly where the bytes begin with the picture under its rules, `strict_exactly`. Beside the default: what it
 -- reads, the default reads to the same telegram and length, `strict_alike`; the two answers differ in 24 and 25 alone, `differ_alone`, and where
 -- exactly, `strict_refused_exactly`, `strict_incomplete_exactly`.
+use Rattle.std.proofs.Common.{None, Option, Some}
 use Prim.Native.Nat.{ℕ, ◌<◌, ◌≤◌}
 use mathlib.Core.Bool.{Bool, true, false}
 use mathlib.Core.List.{List, [], ◌∷◌, ◌++◌}
@@ -25,14 +26,13 @@ use Rattle.telegram.specs.Begins.{Bytes, document01, strict, StartOf, with_sd1, 
 use Rattle.telegram.specs.Picture.{head_with}
 use Rattle.telegram.specs.Reading.{Reading, whole, incomplete, refused, read_of}
 use Rattle.telegram.specs.Refused.{Refuses}
-use Rattle.telegram.specs.declared.header.SapOption.{SapOption}
-use Rattle.telegram.specs.declared.header.SapOption.TheVariants.{Some, None}
 use Rattle.telegram.specs.declared.kinds.DataTelegram.{DataTelegram}
 use Rattle.telegram.specs.declared.kinds.Telegram.{Telegram}
 use Rattle.telegram.specs.declared.kinds.Telegram.TheVariants.{Data, Token, ShortConfirmation}
 use Rattle.telegram_strict.proofs.StartLaws.{StrictFor, sloppy, default, standard_neat, strict_sloppy, strict_neat, strict_for}
 use Rattle.telegram_strict.specs.Sloppy.{LengthsHold, Sloppy, length_outside, fourth_not68, Neat}
 use Rattle.telegram_strict.specs.Strict.{strict_of}
+use Rattle.ground.specs.declared.address.Sap.{Sap}
 
 -- ---- beside the default
 
@@ -125,7 +125,7 @@ drawn_neat {s} {t = Token t} b number wrong = omega (arith, rw (b.bytes, b.draws
 drawn_neat {s} {t = ShortConfirmation} b number wrong = omega (arith, rw (b.bytes, b.draws) at (holds wrong))
 
 -- Any byte is a SAP's to strict mode.
-strict_sap : (o : SapOption) → SapMayBe strict o
+strict_sap : (o : Option Sap) → SapMayBe strict o
 strict_sap (Some sap) = tt
 strict_sap None = tt
 

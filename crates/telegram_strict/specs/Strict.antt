@@ -1,6 +1,6 @@
 -- Request 2026-05, "A strict reader beside the present one": the answer of strict mode to every byte string, `strict_of`. The default is document 01's
 -- `read_of`, and strict mode is that behind two checks of an SD2 telegram's start.
-use Rattle.std.specs.Prelude.{ℕ, Bool, not, ◌&&◌, List, eqb, leb, length}
+use Rattle.std.specs.Prelude.{ℕ, Bool, not, ◌&&◌, List, eqb, leb, length, Err, Ok, Result}
 use Rattle.codes.specs.Delimiters.{SD2}
 use Rattle.ground.specs.Part.{byte_at}
 use Rattle.ground.specs.Pick.{if}
@@ -9,12 +9,20 @@ use Rattle.telegram_strict.specs.declared.strict.DeserializedIn.{DeserializedIn}
 use Rattle.telegram_strict.specs.declared.strict.DeserializedIn.TheVariants as deserialized
 use Rattle.telegram_strict.specs.declared.strict.Mode.{Mode}
 use Rattle.telegram_strict.specs.declared.strict.Mode.TheVariants.{Default, Strict}
+use Rattle.telegram_strict.specs.declared.strict.Sloppiness.{Sloppiness}
+use Rattle.telegram_strict.specs.declared.strict.Sloppiness.TheVariants.{LengthNotStandard, FourthByte}
 
 -- what reading in a mode answers, which bears its refusal's number
 abbrev pub shown_in : DeserializedIn → Reading
 shown_in (deserialized.Telegram t n) = whole t n
 shown_in deserialized.Incomplete = incomplete
 shown_in (deserialized.Refused number) = refused number
+
+-- what judging a start answers, as the number of what is against it; 0 where that is nothing
+abbrev pub shown_start : Result Unit Sloppiness → ℕ
+shown_start (Ok tt) = 0
+shown_start (Err LengthNotStandard) = 24
+shown_start (Err FourthByte) = 25
 
 -- "The checks stand after refusals 2 and 3": six bytes of an SD2 telegram are there, its two length bytes agree, and L is not below 3
 unfoldable pub past_lengths : List ℕ → Bool

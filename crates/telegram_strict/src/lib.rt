@@ -3,4 +3,6 @@
 
 pub mod strict;
 
-pub use strict::{DeserializedIn, Mode, deserialize_in, deserialize_strict, strict_start};
+pub use strict::{
+    DeserializedIn, Mode, Sloppiness, deserialize_in, deserialize_strict, strict_start,
+};

@@ -1,4 +1,5 @@
 -- Every byte of what is written is one: below 256. Read `telegram_bytes_lem`.
+use Rattle.std.proofs.Common.{None, Option, Some}
 use Prim.Native.Nat.{ℕ, ◌<◌, ◌≤◌}
 use mathlib.Core.List.{List, [], ◌∷◌, ◌++◌}
 use native.Mathlib.Omega.{arith}
@@ -11,11 +12,10 @@ use Rattle.telegram.specs.Begins.{Bytes}
 use Rattle.codes.specs.Delimiters.{SD1, SD2, SD3, SD4, SC, ED}
 use Rattle.telegram.specs.Picture.{address_byte, sap_bytes, head_bytes, covered_bytes, length_byte, start_bytes, telegram_bytes, token_bytes, confirmation_bytes}
 use Rattle.telegram.specs.declared.header.DataTelegramHeader.{DataTelegramHeader}
-use Rattle.telegram.specs.declared.header.SapOption.{SapOption}
-use Rattle.telegram.specs.declared.header.SapOption.TheVariants.{Some, None}
 use Rattle.telegram_bytes.proofs.LengthLaws.{any_start}
+use Rattle.ground.specs.declared.address.Sap.{Sap}
 
-address_byte_lem : (a : ℕ) (o : SapOption) → a ≤ 127 → address_byte a o < 256
+address_byte_lem : (a : ℕ) (o : Option Sap) → a ≤ 127 → address_byte a o < 256
 address_byte_lem a (Some sap) h = omega arith
 address_byte_lem a None h = omega arith
 

@@ -1,4 +1,5 @@
 -- Document 01's samples of writing, on the definitions: `Samples`.
+use Rattle.std.proofs.Common.{None, Some}
 use mathlib.Core.Path.{◌≡◌, refl}
 use mathlib.Core.List.{[], ◌∷◌}
 use lib.ListN.{replicate}
@@ -12,9 +13,7 @@ use Rattle.codes.specs.declared.request_type.RequestType.TheVariants.{SdnLow, Sr
 use Rattle.codes.specs.declared.response.ResponseState.TheVariants.{Slave}
 use Rattle.codes.specs.declared.response.ResponseStatus.TheVariants.{DataLow}
 use Rattle.telegram.specs.Picture.{head_bytes, covered_bytes, length_byte, start_bytes, telegram_bytes}
-use Rattle.telegram.specs.declared.header.AddressOption.TheVariants.{Some, None}
 use Rattle.telegram.specs.declared.header.DataTelegramHeader.{DataTelegramHeader}
-use Rattle.telegram.specs.declared.header.SapOption.TheVariants as sapOption
 use Rattle.telegram_tx.specs.Writing.{send_of, write_of, token_buffer_of, confirmation_buffer_of, plain_header, status_request}
 
 -- from station 2 to station 5, no SAPs
@@ -27,8 +26,8 @@ with_saps fc =
     record {
       da = record { 0 = 5 };
       sa = record { 0 = 2 };
-      dsap = sapOption.Some (record { 0 = 60 });
-      ssap = sapOption.Some (record { 0 = 62 });
+      dsap = Some (record { 0 = 60 });
+      ssap = Some (record { 0 = 62 });
       fc = fc;
     }
 

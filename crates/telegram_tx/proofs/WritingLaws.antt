@@ -1,30 +1,28 @@
 -- Laws of the answer of writing and of the buffer that it leaves: one for each refusal, and one for what is sent.
+use Rattle.std.proofs.Common.{Err, Ok, Option, Result}
 use Prim.Native.Nat.{ℕ, ◌<◌, ◌≤◌}
 use mathlib.Core.Path.{◌≡◌, refl, sym, ap}
 use mathlib.Core.Bool.{or-true}
 use mathlib.Core.List.{List, ◌++◌}
 use lib.ListN.{length, drop}
-use lib.Seq.{sets}
 use borrow.Author.Tests.{lt-ltb, le-ltb}
 use Rattle.ground.proofs.Injective.{injective}
 use Rattle.ground.proofs.RefusalLaws.{refusal_of, refusal_again}
 use Rattle.ground.specs.Refusals.{OrRefused, gives, refused}
 use Rattle.telegram.specs.Picture.{length_byte, telegram_bytes}
-use Rattle.telegram.specs.declared.header.AddressOption.{AddressOption}
 use Rattle.telegram.specs.declared.header.DataTelegramHeader.{DataTelegramHeader}
-use Rattle.telegram_bytes.proofs.LeafLaws.{sets_stored, front_stored}
 use Rattle.telegram_tx.specs.Writing.{shown_writing, reply_of, send_of, write_of, left_of}
 use Rattle.telegram_tx.specs.declared.tx.TelegramTxResponse.{TelegramTxResponse}
-use Rattle.telegram_tx.specs.declared.tx.TelegramTxResult.{TelegramTxResult}
-use Rattle.telegram_tx.specs.declared.tx.TelegramTxResult.TheVariants.{Sent, Refused}
+use Rattle.ground.specs.declared.refusal.Refusal.{Refusal}
+use Rattle.ground.specs.declared.address.Address.{Address}
 
 -- A telegram's bytes, where there is no room for them and where there is.
-pub refused_10_of : (t : List ℕ) (reply : AddressOption) (room : ℕ) → room < length t → send_of t reply room ≡ refused 10
+pub refused_10_of : (t : List ℕ) (reply : Option Address) (room : ℕ) → room < length t → send_of t reply room ≡ refused 10
 unfolding send_of
 refused_10_of t reply room p = rw (lt-ltb room (length t) p)
 
 pub sent_of_lem :
-    (t : List ℕ) (reply : AddressOption) (room : ℕ) → length t ≤ room
+    (t : List ℕ) (reply : Option Address) (room : ℕ) → length t ≤ room
     → send_of t reply room ≡ gives (record { bytes_sent = length t; expects_reply = reply })
 unfolding send_of
 sent_of_lem t reply room p = rw (le-ltb room (length t) p)
@@ -71,23 +69,14 @@ pub sent_stands :
     → (gives response ≡ w) × (after ≡ left_of w t buf)
 sent_stands response w t buf after e f = (sym e, rw e f)
 
--- Bytes stored at the front of a buffer with room for them are sent.
-pub stored_sent :
-    (t : List ℕ) (reply : AddressOption) (response : TelegramTxResponse) (buf : List ℕ)
-    → length t ≤ length buf → response ≡ record { bytes_sent = length t; expects_reply = reply }
-    → (gives response ≡ send_of t reply (length buf)) × (sets buf 0 t ≡ left_of (send_of t reply (length buf)) t buf)
-stored_sent t reply response buf room e =
-    sent_stands response (send_of t reply (length buf)) t buf (sets buf 0 t) (rw e (sent_of_lem t reply (length buf) room))
-    (front_stored room (sets_stored buf 0 t)).1
-
 -- What the writer answers is the one that its answer, as it is shown, leads back to.
-abbrev writing_back : OrRefused TelegramTxResponse → TelegramTxResult
-writing_back (gives response) = Sent response
-writing_back (refused n) = Refused (refusal_of n)
+abbrev writing_back : OrRefused TelegramTxResponse → Result TelegramTxResponse Refusal
+writing_back (gives response) = Ok response
+writing_back (refused n) = Err (refusal_of n)
 
-writing_again : (x : TelegramTxResult) → writing_back (shown_writing x) ≡ x
-writing_again (Sent response) = refl
-writing_again (Refused r) = ap Refused (refusal_again r)
+writing_again : (x : Result TelegramTxResponse Refusal) → writing_back (shown_writing x) ≡ x
+writing_again (Ok response) = refl
+writing_again (Err r) = ap Err (refusal_again r)
 
-pub shown_writing_injective : (x y : TelegramTxResult) → shown_writing x ≡ shown_writing y → x ≡ y
+pub shown_writing_injective : (x y : Result TelegramTxResponse Refusal) → shown_writing x ≡ shown_writing y → x ≡ y
 shown_writing_injective = injective shown_writing writing_back writing_again

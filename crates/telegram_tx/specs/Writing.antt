@@ -1,6 +1,6 @@
 -- Document 01, "Writing": the answer of each call that writes a telegram, `write_of`, and the whole buffer that it leaves, `buffer_of`; the
 -- same where the function code comes as a byte, `write_found` and `buffer_found`.
-use Rattle.std.specs.Prelude.{ℕ, ◌||◌, List, ◌++◌, ltb, length, drop}
+use Rattle.std.specs.Prelude.{ℕ, ◌||◌, List, ◌++◌, ltb, length, drop, Err, None, Ok, Option, Result, Some}
 use Rattle.ground.specs.Pick.{if}
 use Rattle.ground.specs.Refusals.{OrRefused, gives, refused, number_of}
 use Rattle.codes.specs.FunctionCodes.{response_code}
@@ -9,33 +9,27 @@ use Rattle.ground.specs.declared.address.Address.{Address}
 use Rattle.codes.specs.declared.frame_count_bit.FrameCountBit.TheVariants.{Inactive}
 use Rattle.codes.specs.declared.function_code.FunctionCode.{FunctionCode}
 use Rattle.codes.specs.declared.function_code.FunctionCode.TheVariants.{Request, Response}
-use Rattle.codes.specs.declared.function_code.FunctionCodeFound.{FunctionCodeFound}
-use Rattle.codes.specs.declared.function_code.FunctionCodeFound.TheVariants.{Is, Nothing}
 use Rattle.codes.specs.declared.request_type.RequestType.TheVariants.{FdlStatus}
 use Rattle.codes.specs.declared.response.ResponseState.{ResponseState}
 use Rattle.codes.specs.declared.response.ResponseStatus.{ResponseStatus}
 use Rattle.telegram.specs.Picture.{length_byte, telegram_bytes, token_bytes, confirmation_bytes}
-use Rattle.telegram.specs.declared.header.AddressOption.{AddressOption}
-use Rattle.telegram.specs.declared.header.AddressOption.TheVariants.{Some, None}
 use Rattle.telegram.specs.declared.header.DataTelegramHeader.{DataTelegramHeader}
-use Rattle.telegram.specs.declared.header.SapOption.TheVariants as sapOption
 use Rattle.telegram_bytes.specs.declared.coded.CodedHeader.{CodedHeader}
 use Rattle.telegram_tx.specs.declared.tx.TelegramTxResponse.{TelegramTxResponse}
-use Rattle.telegram_tx.specs.declared.tx.TelegramTxResult.{TelegramTxResult}
-use Rattle.telegram_tx.specs.declared.tx.TelegramTxResult.TheVariants.{Sent, Refused}
+use Rattle.ground.specs.declared.refusal.Refusal.{Refusal}
 
 -- what a writer answers, with document 01's number
-abbrev pub shown_writing : TelegramTxResult → OrRefused TelegramTxResponse
-shown_writing (Sent response) = gives response
-shown_writing (Refused refusal) = refused (number_of refusal)
+abbrev pub shown_writing : Result TelegramTxResponse Refusal → OrRefused TelegramTxResponse
+shown_writing (Ok response) = gives response
+shown_writing (Err refusal) = refused (number_of refusal)
 
 -- "Replies are expected for all requests but 80, 0, 4 and 6": from the station that the telegram goes to
-abbrev pub reply_of : Address → FunctionCode → AddressOption
+abbrev pub reply_of : Address → FunctionCode → Option Address
 reply_of da (Request fcb req) = if (expects_reply req) (Some da) None
 reply_of da (Response state status) = None
 
 -- "buffer too short": 10; else the telegram's bytes are sent
-unfoldable pub send_of : List ℕ → AddressOption → ℕ → OrRefused TelegramTxResponse
+unfoldable pub send_of : List ℕ → Option Address → ℕ → OrRefused TelegramTxResponse
 send_of t reply room =
     if (ltb room (length t)) (refused 10) (gives (record { bytes_sent = length t; expects_reply = reply }))
 
@@ -67,14 +61,14 @@ abbrev pub decoded : CodedHeader → FunctionCode → DataTelegramHeader
 decoded h fc = record { da = h.da; sa = h.sa; dsap = h.dsap; ssap = h.ssap; fc = fc }
 
 -- such a header's telegram, by what its byte is read as: 4 where it is no function code, before 8, 9 and 10
-abbrev pub write_found : FunctionCodeFound → CodedHeader → List ℕ → ℕ → OrRefused TelegramTxResponse
-write_found (Is fc) h pdu room = write_of (decoded h fc) pdu room
-write_found Nothing h pdu room = refused 4
+abbrev pub write_found : Option FunctionCode → CodedHeader → List ℕ → ℕ → OrRefused TelegramTxResponse
+write_found (Some fc) h pdu room = write_of (decoded h fc) pdu room
+write_found None h pdu room = refused 4
 
 -- and the buffer after it
-abbrev pub buffer_found : FunctionCodeFound → CodedHeader → List ℕ → List ℕ → List ℕ
-buffer_found (Is fc) h pdu buf = buffer_of (decoded h fc) pdu buf
-buffer_found Nothing h pdu buf = buf
+abbrev pub buffer_found : Option FunctionCode → CodedHeader → List ℕ → List ℕ → List ℕ
+buffer_found (Some fc) h pdu buf = buffer_of (decoded h fc) pdu buf
+buffer_found None h pdu buf = buf
 
 -- after a token
 abbrev pub token_buffer_of : Address → Address → List ℕ → List ℕ
@@ -86,7 +80,7 @@ confirmation_buffer_of buf = left_of (write_confirmation_of (length buf)) confir
 
 -- a header without SAPs
 abbrev pub plain_header : Address → Address → FunctionCode → DataTelegramHeader
-plain_header da sa fc = record { da = da; sa = sa; dsap = sapOption.None; ssap = sapOption.None; fc = fc }
+plain_header da sa fc = record { da = da; sa = sa; dsap = None; ssap = None; fc = fc }
 
 -- a request for the FDL status: the frame count bit is Inactive
 abbrev pub status_request : Address → Address → DataTelegramHeader

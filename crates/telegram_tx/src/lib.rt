@@ -6,7 +6,6 @@ pub mod tx;
 
 pub use telegram_bytes::CodedHeader;
 pub use tx::{
-    TelegramTxResponse, TelegramTxResult, send_coded_telegram, send_data_telegram,
-    send_fdl_status_request, send_fdl_status_response, send_short_confirmation,
-    send_token_telegram,
+    TelegramTxResponse, send_coded_telegram, send_data_telegram, send_fdl_status_request,
+    send_fdl_status_response, send_short_confirmation, send_token_telegram,
 };

@@ -1,4 +1,4 @@
--- Laws of `Placed`: nothing laid down, `none`; one row after another, `then`; a row that fits; and the loop that lays down a row for each byte.
+-- Laws of `Placed`: nothing laid down, `none`; one row after another, `then`; a row that fits; and the loop that lays bytes down one by one.
 use mathlib.Core.Path.{◌≡◌, refl, sym, ap, ◌∙◌}
 use mathlib.Core.List.{List, [], ◌∷◌, ◌++◌}
 use Prim.Native.Nat.{ℕ, suc, ◌+◌, ◌≤◌, ◌<◌, min}
@@ -60,28 +60,8 @@ pub laid_whole : (buffer p : List ℕ) → length p ≡ length buffer → laid b
 laid_whole buffer p h =
     sym (take_all (length p) (laid buffer 0 p) (rw laid_length (omega arith))) ∙ laid_front buffer p (omega arith)
 
--- ---- the loop that lays down a row for each byte
-
--- after i turns the rows of the first i bytes are laid down
-pub record Rows (row : List ℕ → List ℕ) (before : List ℕ) (at : ℕ) (bytes after : List ℕ) (next i : ℕ) : Type 0 where
-  pub placed : Placed before at (row (take i bytes)) next after
-  pub within : i ≤ length bytes
-
--- at the start, with the row of one byte more, and at the end; the row of some bytes and others is that of the ones, then that of the others
-module _ (row : List ℕ → List ℕ) where
-  pub rows_start : {buffer bytes : List ℕ} {at next : ℕ} → row [] ≡ [] → next ≡ min at (length buffer + 1)
-      → Rows row buffer at bytes buffer next 0
-  rows_start empty e = record { placed = rw empty (none e); within = omega arith }
-
-  pub rows_turn : {before after last bytes : List ℕ} {at next end i : ℕ} → ((p q : List ℕ) → row (p ++ q) ≡ row p ++ row q) → i < length bytes
-      → Rows row before at bytes after next i
-      → Placed after next (row (get_or bytes i 0 ∷ [])) end last
-      → Rows row before at bytes last end (i + 1)
-  rows_turn {bytes = bytes} {i = i} joined h f g = record {
-    placed = rw (add-one i, take-suc bytes i 0 h, joined (take i bytes) (get_or bytes i 0 ∷ [])) (then f.placed g);
-    within = omega arith;
-  }
-
-  pub rows_end : {before after bytes : List ℕ} {at next i : ℕ} → length bytes ≤ i → Rows row before at bytes after next i
-      → Placed before at (row bytes) next after
-  rows_end {bytes = bytes} {i = i} h f = rw (take_all i bytes h) at f.placed
+-- the loop that lays bytes down one by one: with one byte more
+pub bytes_turn : {before after last : List ℕ} (bytes : List ℕ) {at next end : ℕ} (i : ℕ) → i < length bytes → Placed before at (take i bytes) next after
+    → Placed after next (get_or bytes i 0 ∷ []) end last
+    → Placed before at (take (i + 1) bytes) end last
+bytes_turn bytes i h f g = rw (add-one i, take-suc bytes i 0 h) (then f g)

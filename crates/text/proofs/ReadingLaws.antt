@@ -8,13 +8,14 @@ use native.Mathlib.Decide.{dec_le, dec_lt}
 use native.Mathlib.Nat.{add-zero}
 use native.Mathlib.Numerals.{add-one}
 use native.Mathlib.Omega.{arith}
-use borrow.Author.Tests.{eqb-true, eqb-false, eq-eqb, leb-true, le-leb, lt-leb}
+use borrow.Author.Tests.{eqb-true, eqb-false, eq-eqb, leb-true, le-leb}
 use lib.Dec.{leb, eqb}
 use lib.ListN.{length, get_or, drop, length-drop, drop_of_length-le}
 use lib.Seq.{drop-cons, drop-drop, get_or-drop}
 use Rattle.ground.proofs.PickLaws.{both_first, both_second}
 use Rattle.ground.specs.Pick.{if}
-use Rattle.text.specs.declared.decimal.Number.TheVariants.{Is, Nothing}
+use Rattle.std.specs.Prelude.{None, Option, Some}
+use Rattle.text.specs.declared.decimal.Number.{Number}
 use Rattle.text.specs.Decimal.{decimal_of, digits, number_at, value_from, value_of, is_digit, digits_in, same, is_decimal}
 use Rattle.text.specs.Leaves.{DigitsRead}
 use Rattle.text.proofs.DecimalLaws.{decimal_one, decimal_more, decimal_head, decimal_value, digits_in_front, small_length}
@@ -145,7 +146,7 @@ pub record DigitsLeft (text : List ℕ) (at limit value next : ℕ) : Type 0 whe
 
 -- where no digit is left, the digits are read
 pub left_end : {text : List ℕ} {at limit value next : ℕ} → DigitsLeft text at limit value next → digits_in (drop next text) ≡ []
-    → DigitsRead text at limit value next
+    → DigitsRead text at limit (record { value = value; next = next })
 unfolding value_from
 left_end {value = value} k e = record {
   number = omega (arith, k.bound, rw e at k.number);
@@ -169,26 +170,6 @@ left_turn {text} {limit = limit} {value = value} {next = next} k h e l =
 
 -- ---- the number at a place
 
-pub number_none : (text : List ℕ) (at limit : ℕ) → is_decimal (digits_in (drop at text)) ≡ false → number_at text at limit ≡ Nothing
-unfolding number_at
-number_none text at limit e = rw e
-
-module _ {text : List ℕ} {at limit value next : ℕ} (k : DigitsRead text at limit value next) (e : is_decimal (digits_in (drop at text)) ≡ true) where
-  pub number_above : limit < value → number_at text at limit ≡ Nothing
-  unfolding number_at
-  number_above h =
-      let v : ℕ = value_of (digits_in (drop at text)) in
-      let above : leb v limit ≡ false = lt-leb v limit (omega (arith, k.number)) in
-      rw (e, above)
-
-  pub number_found : value ≤ limit → number_at text at limit ≡ Is value next
-  unfolding number_at
-  number_found h =
-      let v : ℕ = value_of (digits_in (drop at text)) in
-      let is : v ≡ value = omega (arith, k.number) in
-      let within : leb v limit ≡ true = le-leb v limit (omega arith) in
-      rw (e, within, is, ← k.place)
-
 -- the digits that a text begins with, and what stands behind them, are the text
 digits_split : (text : List ℕ) → text ≡ digits_in text ++ drop (length (digits_in text)) text
 unfolding digits_in
@@ -203,7 +184,7 @@ digits_split (b ∷ text) = go (is_digit b) (digits_split text)
 -- the number written at a place, with no further digit behind it, is read there
 pub number_written : (text : List ℕ) (at n limit : ℕ) (rest : List ℕ)
     → drop at text ≡ decimal_of n ++ rest → digits_in rest ≡ [] → n ≤ limit
-    → number_at text at limit ≡ Is n (at + length (decimal_of n))
+    → number_at text at limit ≡ Some (record { value = n; next = at + length (decimal_of n) })
 unfolding number_at
 number_written text at n limit rest e stop h =
     let found : digits_in (drop at text) ≡ decimal_of n = ap digits_in e ∙ digits_in_front n rest ∙ rw stop (append-nil (decimal_of n)) in
@@ -215,19 +196,20 @@ pub record NumberRead (text : List ℕ) (at limit n next : ℕ) : Type 0 where
   pub written : drop at text ≡ decimal_of n ++ drop next text
   pub place : next ≡ at + length (decimal_of n)
 
-pub number_read : (text : List ℕ) (at limit n next : ℕ) → number_at text at limit ≡ Is n next → NumberRead text at limit n next
+pub number_read : (text : List ℕ) (at limit n next : ℕ) → number_at text at limit ≡ Some (record { value = n; next = next }) → NumberRead text at limit n next
 unfolding number_at
 number_read text at limit n next e =
     let bytes = digits_in (drop at text) in
     go bytes refl (is_decimal bytes) refl (leb (value_of bytes) limit) refl e
   where
     go : (bytes : List ℕ) → digits_in (drop at text) ≡ bytes → (s : Bool) → is_decimal bytes ≡ s → (t : Bool) → leb (value_of bytes) limit ≡ t
-        → if s (if t (Is (value_of bytes) (at + length bytes)) Nothing) Nothing ≡ Is n next
+        → if {A = Option Number} s (if t (Some (record { value = value_of bytes; next = at + length bytes })) None) None ≡ Some (record { value = n; next = next })
         → NumberRead text at limit n next
     go bytes d true p true q e =
         let was : bytes ≡ decimal_of (value_of bytes) = decimal_was bytes p in
-        let value : value_of bytes ≡ n = cc in
-        let place : at + length bytes ≡ next = cc in
+        let same : ◌≡◌ {A = Number} (record { value = value_of bytes; next = at + length bytes }) (record { value = n; next = next }) = cc in
+        let value : value_of bytes ≡ n = ap (λ (m : Number). m.value) same in
+        let place : at + length bytes ≡ next = ap (λ (m : Number). m.next) same in
         let found : bytes ≡ decimal_of n = was ∙ ap decimal_of value in
         record {
           within = rw value at (leb-true (value_of bytes) limit q);

@@ -1,7 +1,7 @@
 -- Text by example: numbers written and read, and bytes laid down at a place, computed on the definitions.
 use mathlib.Core.Path.{◌≡◌, refl}
 use mathlib.Core.List.{[]}
-use Rattle.text.specs.declared.decimal.Number.TheVariants.{Is, Nothing}
+use Rattle.std.specs.Prelude.{None, Some}
 use Rattle.text.specs.Decimal.{digits, decimal_of, value_from, value_of, is_digit, digits_in, same, is_decimal, number_at}
 use Rattle.text.specs.Placed.{laid, behind}
 use Rattle.text.specs.Quoted.{bytes_of}
@@ -17,15 +17,15 @@ unfolding digits decimal_of value_from
 decimal_samples = (refl, refl, refl, refl, refl, refl, refl)
 
 -- the digits at a place, however many, are one number: 255 is not read out of 2556, nor 0 out of 07
-pub number_samples : (number_at (bytes_of "at=255 ") 3 255 ≡ Is 255 6)
-    × (number_at (bytes_of "0") 0 255 ≡ Is 0 1)
-    × (number_at (bytes_of "256") 0 255 ≡ Nothing)
-    × (number_at (bytes_of "256") 0 4096 ≡ Is 256 3)
-    × (number_at (bytes_of "2556") 0 255 ≡ Nothing)
-    × (number_at (bytes_of "07") 0 255 ≡ Nothing)
-    × (number_at (bytes_of "00") 0 255 ≡ Nothing)
-    × (number_at (bytes_of "x") 0 255 ≡ Nothing)
-    × (number_at (bytes_of "7") 9 255 ≡ Nothing)
+pub number_samples : (number_at (bytes_of "at=255 ") 3 255 ≡ Some (record { value = 255; next = 6 }))
+    × (number_at (bytes_of "0") 0 255 ≡ Some (record { value = 0; next = 1 }))
+    × (number_at (bytes_of "256") 0 255 ≡ None)
+    × (number_at (bytes_of "256") 0 4096 ≡ Some (record { value = 256; next = 3 }))
+    × (number_at (bytes_of "2556") 0 255 ≡ None)
+    × (number_at (bytes_of "07") 0 255 ≡ None)
+    × (number_at (bytes_of "00") 0 255 ≡ None)
+    × (number_at (bytes_of "x") 0 255 ≡ None)
+    × (number_at (bytes_of "7") 9 255 ≡ None)
 unfolding digits decimal_of value_from is_digit digits_in same is_decimal number_at
 number_samples = (refl, refl, refl, refl, refl, refl, refl, refl, refl)
 

@@ -1,9 +1,8 @@
 -- Decimal numbers: the digits 0 to 9 as the bytes 48 to 57, the most significant first, without leading zeros. Read `decimal_of`, a number as it is
 -- written, and `number_at`, the number that is read at a place.
-use Rattle.std.specs.Prelude.{Bool, true, false, List, [], ◌∷◌, ◌++◌, ℕ, zero, suc, ◌+◌, ◌-◌, ◌*◌, ◌/◌, ◌%◌, length, drop, eqb, leb, ltb}
+use Rattle.std.specs.Prelude.{Bool, true, false, List, [], ◌∷◌, ◌++◌, ℕ, zero, suc, ◌+◌, ◌-◌, ◌*◌, ◌/◌, ◌%◌, length, drop, eqb, leb, ltb, Option, Some, None}
 use Rattle.ground.specs.Pick.{if}
 use Rattle.text.specs.declared.decimal.Number.{Number}
-use Rattle.text.specs.declared.decimal.Number.TheVariants.{Is, Nothing}
 
 -- the byte of a digit 0 to 9
 abbrev pub digit_of : ℕ → ℕ
@@ -48,7 +47,9 @@ unfoldable pub is_decimal : List ℕ → Bool
 is_decimal bytes = same bytes (decimal_of (value_of bytes))
 
 -- the number from 0 to a limit whose decimal the digits at a place are, and the place behind them
-unfoldable pub number_at : List ℕ → ℕ → ℕ → Number
+unfoldable pub number_at : List ℕ → ℕ → ℕ → Option Number
 number_at text at limit =
     let bytes = digits_in (drop at text) in
-    if (is_decimal bytes) (if (leb (value_of bytes) limit) (Is (value_of bytes) (at + length bytes)) Nothing) Nothing
+    if (is_decimal bytes)
+    (if (leb (value_of bytes) limit) (Some (record { value = value_of bytes; next = at + length bytes })) None)
+    None

@@ -3,8 +3,9 @@ ghost use Rattle.std.specs.Prelude.{◌<◌, ◌≡◌};
 ghost use Rattle.text.specs.Hex.{hex_digit, hex_byte, hex_of};
 ghost use Rattle.text.specs.Placed.{Placed};
 
-use crate::place::{clipped, put_byte};
+use crate::place::put_byte;
 
+#[tactic(auto, unfolding(crate::specs::Hex::hex_digit))]
 fn hex_digit(d: u8) -> u8
     requires { d < 16 }
     ensures { result ≡ hex_digit d }
@@ -23,11 +24,9 @@ fn put_hex_byte(buf: &mut [u8], at: usize, b: u8) -> usize
 pub fn put_hex(buf: &mut [u8], at: usize, bytes: &[u8]) -> usize
     ensures { Placed buf.old at (hex_of bytes.now) result buf.new }
 {
-    let mut next = clipped(buf.len(), at);
-    let mut i = 0;
-    while i < bytes.len() {
-        next = put_hex_byte(buf, next, bytes[i]);
-        i += 1;
+    let mut next = at.min(buf.len() + 1);
+    for &b in bytes {
+        next = put_hex_byte(buf, next, b);
     }
     next
 }

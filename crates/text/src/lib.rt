@@ -1,5 +1,7 @@
 // Text in lent bytes: a byte, a row of bytes, its hexadecimal digits or a decimal number is laid down at a place, and a decimal number is read at
 // one. Each `put_` call answers the place behind what it laid down, so that calls follow one another.
+// The buffer and the place go separately: a caller is lent the one and keeps the other.
+// No `Display`: what is promised is each byte of a lent buffer, and there is no heap to format into.
 #![tactic(auto)]
 
 pub mod decimal;

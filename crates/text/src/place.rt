@@ -18,49 +18,28 @@ pub fn put_byte(buf: &mut [u8], at: usize, b: u8) -> usize
     }
 }
 
-// The place itself, or one past the end: where a row of no bytes ends.
-pub(crate) fn clipped(len: usize, at: usize) -> usize
-    requires { len + 1 < 2 ^ 64 }
-    ensures { result ≡ min at (len + 1) }
-{
-    if at <= len { at } else { len + 1 }
-}
-
 pub fn put_bytes(buf: &mut [u8], at: usize, bytes: &[u8]) -> usize
     ensures { Placed buf.old at bytes.now result buf.new }
 {
-    let mut next = clipped(buf.len(), at);
-    let mut i = 0;
-    while i < bytes.len() {
-        next = put_byte(buf, next, bytes[i]);
-        i += 1;
+    let mut next = at.min(buf.len() + 1);
+    for &b in bytes {
+        next = put_byte(buf, next, b);
     }
     next
 }
 
 // Whether this byte stands at a place of the text.
+#[tactic(auto, using(crate::proofs::BeginsLaws::byte_there, crate::proofs::BeginsLaws::byte_beyond))]
 pub fn byte_is_at(text: &[u8], at: usize, b: u8) -> bool
     ensures { result ≡ begins (b ∷ []) (drop at text.now) }
 {
-    if at < text.len() {
-        text[at] == b
-    } else {
-        false
-    }
+    at < text.len() && text[at] == b
 }
 
 // Whether these bytes stand at a place of the text.
+#[tactic(auto, using(crate::proofs::BeginsLaws::starts_at))]
 pub fn begins_at(text: &[u8], at: usize, bytes: &[u8]) -> bool
     ensures { result ≡ begins bytes.now (drop at text.now) }
 {
-    let mut i = 0;
-    let mut next = at;
-    while i < bytes.len() {
-        if !byte_is_at(text, next, bytes[i]) {
-            return false;
-        }
-        i += 1;
-        next += 1;
-    }
-    true
+    text[at.min(text.len())..].starts_with(bytes)
 }

@@ -1,8 +1,10 @@
 -- No second outcome fits the promise of a public call of `token_ring`: two outcomes that its promise allows are the same.
-use Rattle.std.proofs.Common.{◌≡◌, ℕ, refl}
+use Rattle.std.proofs.Common.{◌≡◌, ℕ, Result, refl}
 use Rattle.ground.proofs.DeterminedLaws.{fixed, same, seen}
 use Rattle.ground.proofs.RefusalLaws.{shown_injective}
 use Rattle.ground.specs.Determined.{Determined}
+use Rattle.ground.specs.declared.refusal.Refusal.{Refusal}
+use Rattle.ground.specs.declared.returned.Returned.{Returned}
 use Rattle.token_ring.proofs.Sets.{shown_found_injective}
 use Rattle.token_ring.specs.contracts.las_state.LasState.is_valid as is_valid
 use Rattle.token_ring.proofs.las_state.LasState.is_valid.Reads as is_valid_reads
@@ -37,12 +39,11 @@ use Rattle.token_ring.proofs.ring.TokenRing.this_station.Reads as this_station_r
 use Rattle.token_ring.specs.contracts.ring.TokenRing.witness_token_pass as witness_token_pass
 use Rattle.token_ring.proofs.ring.TokenRing.witness_token_pass.Reads as witness_token_pass_reads
 use Rattle.token_ring.specs.Promises.{Gives}
-use Rattle.token_ring.specs.declared.ring.Changed.{Changed}
 use Rattle.token_ring.specs.declared.ring.TokenRing.{TokenRing}
 
 -- an answer and a list of which the promise gives the answer's number and the list
-pub gives_one : {number : ℕ} {after : TokenRing} {c d : Changed} → Gives number after c → Gives number after d → c ≡ d
-gives_one {c = c} {d = d} p q i = record { answer = shown_injective c.answer d.answer (same p.answer q.answer) i; ring = same p.ring q.ring i }
+pub gives_one : {number : ℕ} {after : TokenRing} {c d : Returned (Result Unit Refusal) TokenRing} → Gives number after c → Gives number after d → c ≡ d
+gives_one {c = c} {d = d} p q i = record { answer = shown_injective c.answer d.answer (same p.answer q.answer) i; after = same p.ring q.ring i }
 
 pub record Calls : Type 0 where
   pub new_ring : Determined new_ring.ended new_ring_reads.Learnt

@@ -1,7 +1,6 @@
 -- Laws of the flags by index, and what one turn of each loop over them does.
-use Rattle.std.proofs.Common.{◌≡◌, ℕ, zero, suc, ◌+◌, ◌-◌, ◌<◌, ◌≤◌, min, Bool, true, false, ◌&&◌, eqb, leb, List, [], ◌∷◌, ◌++◌, length, take, set, sym, refl, ap, ◌∙◌, add-zero, add-suc, suc-add, zero-add, sub-eq-zero_of_le, add-one, arith, length-set, drop_of_length-le, length-take-le, take_all, drop-cons, get_or-set_other, take-suc, ext_get_or, le-ltb, lt-ltb, ne_eqb, le-leb}
+use Rattle.std.proofs.Common.{◌≡◌, ℕ, zero, suc, ◌+◌, ◌-◌, ◌<◌, ◌≤◌, min, Bool, true, false, ◌&&◌, eqb, leb, List, [], ◌∷◌, ◌++◌, length, take, set, sym, refl, ap, ◌∙◌, add-zero, add-suc, suc-add, zero-add, sub-eq-zero_of_le, add-one, arith, length-set, drop_of_length-le, length-take-le, take_all, drop-cons, get_or-set_other, take-suc, ext_get_or, le-ltb, lt-ltb, ne_eqb, le-leb, None, Option, Some}
 use mathlib.Core.Logic.{by_cases}
-use mathlib.Core.Option.{Option, none, some}
 use native.Mathlib.Decide.{dec_lt}
 use borrow.Author.Tests.{lt-leb}
 use mir.Val.{bool_byte}
@@ -79,10 +78,11 @@ module _ (at to : ℕ) (l : List Bool) (h : at < to) where
       (λ m. cleared_here i (omega arith)))
 
   -- one flag more is cleared
-  pub cleared_step : cleared (suc at) to (set l at false) ≡ cleared at to l
+  pub cleared_step : cleared (at + 1) to (set l at false) ≡ cleared at to l
   cleared_step =
-      ext_get_or false _ _ (length_cleared (suc at) to (set l at false) ∙ length-set l at false ∙ sym (length_cleared at to l)) (λ i k.
-      rw (cleared_at (suc at) to (set l at false) i, cleared_at at to l i) (cleared_turn i))
+      rw add-one
+      (ext_get_or false _ _ (length_cleared (suc at) to (set l at false) ∙ length-set l at false ∙ sym (length_cleared at to l)) (λ i k.
+      rw (cleared_at (suc at) to (set l at false) i, cleared_at at to l i) (cleared_turn i)))
 
 -- ---- scanning for one that is set
 
@@ -115,16 +115,16 @@ byte_le false = omega arith
 
 -- ---- the lowest, scanning upward
 
-pub lowest_done : (at : ℕ) (l : List Bool) → length l ≤ at → lowest_from at l ≡ none
+pub lowest_done : (at : ℕ) (l : List Bool) → length l ≤ at → lowest_from at l ≡ None
 unfolding lowest_from
 lowest_done at l h = rw (drop_of_length-le l h)
 
-pub lowest_step : (at : ℕ) (l : List Bool) → at < length l → lowest_from at l ≡ if (active l at) (some at) (lowest_from (suc at) l)
+pub lowest_step : (at : ℕ) (l : List Bool) → at < length l → lowest_from at l ≡ if (active l at) (Some at) (lowest_from (suc at) l)
 unfolding lowest_from
 lowest_step at l h = rw (drop-cons l at false h)
 
 module _ (at : ℕ) (l : List Bool) (h : at < length l) where
-  pub lowest_hit : active l at ≡ true → lowest_from at l ≡ some at
+  pub lowest_hit : active l at ≡ true → lowest_from at l ≡ Some at
   lowest_hit e = lowest_step at l h ∙ rw e
 
   pub lowest_miss : active l at ≡ false → lowest_from at l ≡ lowest_from (at + 1) l
@@ -133,27 +133,27 @@ module _ (at : ℕ) (l : List Bool) (h : at < length l) where
 -- ---- the highest, scanning downward
 
 highest_last : (k : ℕ) (xs : List Bool) (x : Bool) (d : Option ℕ)
-    → highest k (xs ++ x ∷ []) d ≡ if x (some (k + length xs)) (highest k xs d)
+    → highest k (xs ++ x ∷ []) d ≡ if x (Some (k + length xs)) (highest k xs d)
 highest_last k [] x d = rw add-zero
-highest_last k (y ∷ ys) x d = rw (add-suc, ← suc-add) (highest_last (suc k) ys x (if y (some k) d))
+highest_last k (y ∷ ys) x d = rw (add-suc, ← suc-add) (highest_last (suc k) ys x (if y (Some k) d))
 
-pub highest_done : (at : ℕ) (l : List Bool) → at ≤ 0 → highest_below at l ≡ none
+pub highest_done : (at : ℕ) (l : List Bool) → at ≤ 0 → highest_below at l ≡ None
 unfolding highest_below
 highest_done at l h = let e : at ≡ 0 = omega arith in rw e
 
-pub highest_step : (at : ℕ) (l : List Bool) → at < length l → highest_below (suc at) l ≡ if (active l at) (some at) (highest_below at l)
+pub highest_step : (at : ℕ) (l : List Bool) → at < length l → highest_below (suc at) l ≡ if (active l at) (Some at) (highest_below at l)
 unfolding highest_below
 highest_step at l h =
-    rw (take-suc l at false h, highest_last 0 (take at l) (active l at) none, length-take-le at l (omega arith), zero-add)
+    rw (take-suc l at false h, highest_last 0 (take at l) (active l at) None, length-take-le at l (omega arith), zero-add)
 
 -- the same from the place above, as the loop has it
 module _ (at : ℕ) (l : List Bool) (k : 0 < at) (h : at ≤ length l) where
-  highest_from : highest_below at l ≡ if (active l (at - 1)) (some (at - 1)) (highest_below (at - 1) l)
+  highest_from : highest_below at l ≡ if (active l (at - 1)) (Some (at - 1)) (highest_below (at - 1) l)
   highest_from =
       let e : at ≡ suc (at - 1) = omega arith in
       ap (λ (n : ℕ). highest_below n l) e ∙ highest_step (at - 1) l (omega arith)
 
-  pub highest_hit : active l (at - 1) ≡ true → highest_below at l ≡ some (at - 1)
+  pub highest_hit : active l (at - 1) ≡ true → highest_below at l ≡ Some (at - 1)
   highest_hit e = highest_from ∙ rw e
 
   pub highest_miss : active l (at - 1) ≡ false → highest_below at l ≡ highest_below (at - 1) l

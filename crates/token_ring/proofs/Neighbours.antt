@@ -1,8 +1,7 @@
 -- Next and previous, and a pass that holds, said of the set of active addresses: `next_active` and `next_clear`, `previous_active` and
 -- `previous_clear`, `holds_means` and `means_holds`.
-use Rattle.std.proofs.Common.{◌≡◌, ℕ, suc, ◌<◌, ◌≤◌, Bool, true, false, ◌&&◌, ◌||◌, ltb, ◌⊎◌, List, length, refl, inl, inr, ⊎_elim, arith, ltb-true, lt-ltb, le-leb, leb-false, leb-true}
+use Rattle.std.proofs.Common.{◌≡◌, ℕ, suc, ◌<◌, ◌≤◌, Bool, true, false, ◌&&◌, ◌||◌, ltb, ◌⊎◌, List, length, refl, inl, inr, ⊎_elim, arith, ltb-true, lt-ltb, le-leb, leb-false, leb-true, None, Option, Some}
 use mathlib.Core.Logic.{by_cases}
-use mathlib.Core.Option.{Option, none, some}
 use native.Mathlib.Decide.{dec_le, dec_lt}
 use borrow.Author.Tests.{lt-leb}
 use lib.ListN.{get_or-eq_default}
@@ -38,20 +37,20 @@ module _ (first second a : ℕ) where
 module _ (own : ℕ) (l : List Bool) where
   next_is : (o o₀ : Option ℕ) → lowest_from (suc own) l ≡ o → lowest_from 0 l ≡ o₀
       → (Active l (or_else o (or_else o₀ own)) ⊎ (or_else o (or_else o₀ own) ≡ own)) × NoneBetween own (or_else o (or_else o₀ own)) l
-  next_is (some a) o₀ e f =
+  next_is (Some a) o₀ e f =
       let w = lowest_found (suc own) l a e in (
         inl w.active,
         λ b t. let p = between_rise own a b (omega arith) t in
             unset _ (λ g. let m : a ≤ b = w.lowest b (omega arith) g in omega arith),
       )
-  next_is none (some a) e f =
+  next_is None (Some a) e f =
       let w = lowest_found 0 l a f in
       let h : a ≤ own = by_cases (dec_le a own) (λ k. k) (λ k. both w.active (lowest_none (suc own) l e a (omega arith))) in (
         inl w.active,
         λ b t. ⊎_elim (λ k. lowest_none (suc own) l e b (omega arith)) (λ k. unset _ (λ g. let m : a ≤ b = w.lowest b (omega arith) g in omega arith))
             (between_round own a b h t),
       )
-  next_is none none e f = (inr refl, λ b t. lowest_none 0 l f b (omega arith))
+  next_is None None e f = (inr refl, λ b t. lowest_none 0 l f b (omega arith))
 
   -- next is an active station or own
   pub next_active : Active l (next_of own l) ⊎ (next_of own l ≡ own)
@@ -71,13 +70,13 @@ module _ (own : ℕ) (l : List Bool) (size : length l ≡ 128) where
 
   previous_is : (o o₀ : Option ℕ) → highest_below own l ≡ o → highest_below 128 l ≡ o₀
       → (Active l (or_else o (or_else o₀ own)) ⊎ (or_else o (or_else o₀ own) ≡ own)) × NoneBetween (or_else o (or_else o₀ own)) own l
-  previous_is (some a) o₀ e f =
+  previous_is (Some a) o₀ e f =
       let w = highest_found own l a e in (
         inl w.active,
         λ b t. let p = between_rise a own b w.below t in
             unset _ (λ g. let m : b ≤ a = w.highest b p.1 g in omega arith),
       )
-  previous_is none (some a) e f =
+  previous_is None (Some a) e f =
       let w = highest_found 128 l a f in
       let h : own ≤ a = by_cases (dec_le own a) (λ k. k) (λ k. both w.active (highest_none own l e a (omega arith))) in (
         inl w.active,
@@ -86,7 +85,7 @@ module _ (own : ℕ) (l : List Bool) (size : length l ≡ 128) where
             (λ k. highest_none own l e b k)
             (between_round a own b h t),
       )
-  previous_is none none e f =
+  previous_is None None e f =
       (inr refl, λ b t. by_cases (dec_lt b 128) (λ m. highest_none 128 l f b m) (λ m. past b (omega arith)))
 
   -- previous is an active station or own

@@ -1,16 +1,12 @@
 -- Laws of the rules, in the order in which the code tests.
-use Rattle.std.proofs.Common.{◌≡◌, ℕ, suc, ◌+◌, ◌<◌, ◌≤◌, Bool, true, false, ◌&&◌, ◌⊎◌, List, length, set, sym, refl, ◌∙◌, inl, inr, add-one, arith, length-set, le-ltb, lt-ltb, le-leb}
+use Rattle.std.proofs.Common.{◌≡◌, ℕ, suc, ◌+◌, ◌<◌, ◌≤◌, Bool, true, false, ◌&&◌, ◌⊎◌, List, length, set, ◌∙◌, inl, inr, add-one, arith, length-set, le-ltb, lt-ltb, le-leb, None, Some}
 use mathlib.Core.Logic.{by_cases}
-use mathlib.Core.Option.{none, some}
 use native.Mathlib.Decide.{dec_lt}
 use borrow.Author.Tests.{lt-leb}
 use Rattle.ground.specs.Pick.{if}
-use Rattle.ground.specs.declared.address.Address.{Address}
-use Rattle.token_ring.specs.declared.ring.Heard.{Heard}
 use Rattle.token_ring.specs.declared.ring.TokenRing.{TokenRing}
 use Rattle.token_ring.specs.Flags.{active, cleared, quiet, lowest_from, highest_below}
-use Rattle.token_ring.specs.Rules.{wrap, swept, passed, next_of, previous_of, holds, fresh, made, Effect, effect_of, effected, in_phase, with_flags, updated, witnessed, station_answer, next_set, removed}
-use Rattle.token_ring.specs.Leaves.{Hears}
+use Rattle.token_ring.specs.Rules.{wrap, swept, passed, next_of, previous_of, holds, fresh, made, effect_of, effected, with_flags, witnessed, station_answer, next_set, removed}
 use Rattle.token_ring.proofs.FlagLaws.{length_cleared}
 
 -- ---- update
@@ -62,52 +58,29 @@ module _ (sa da : ℕ) (l : List Bool) where
 -- ---- next and previous
 
 module _ (own : ℕ) (l : List Bool) where
-  pub next_above : (a : ℕ) → lowest_from (suc own) l ≡ some a → next_of own l ≡ a
+  pub next_above : (a : ℕ) → lowest_from (suc own) l ≡ Some a → next_of own l ≡ a
   unfolding next_of
   next_above a e = rw e
 
-  pub next_round : (a : ℕ) → lowest_from (suc own) l ≡ none → lowest_from 0 l ≡ some a → next_of own l ≡ a
+  pub next_round : (a : ℕ) → lowest_from (suc own) l ≡ None → lowest_from 0 l ≡ Some a → next_of own l ≡ a
   unfolding next_of
   next_round a e f = rw (e, f)
 
-  pub next_none : lowest_from (suc own) l ≡ none → lowest_from 0 l ≡ none → next_of own l ≡ own
+  pub next_none : lowest_from (suc own) l ≡ None → lowest_from 0 l ≡ None → next_of own l ≡ own
   unfolding next_of
   next_none e f = rw (e, f)
 
-  pub previous_below : (a : ℕ) → highest_below own l ≡ some a → previous_of own l ≡ a
+  pub previous_below : (a : ℕ) → highest_below own l ≡ Some a → previous_of own l ≡ a
   unfolding previous_of
   previous_below a e = rw e
 
-  pub previous_round : (a : ℕ) → highest_below own l ≡ none → highest_below 128 l ≡ some a → previous_of own l ≡ a
+  pub previous_round : (a : ℕ) → highest_below own l ≡ None → highest_below 128 l ≡ Some a → previous_of own l ≡ a
   unfolding previous_of
   previous_round a e f = rw (e, f)
 
-  pub previous_none : highest_below own l ≡ none → highest_below 128 l ≡ none → previous_of own l ≡ own
+  pub previous_none : highest_below own l ≡ None → highest_below 128 l ≡ None → previous_of own l ≡ own
   unfolding previous_of
   previous_none e f = rw (e, f)
-
--- ---- the list with other flags, as the code puts it together
-
--- a flag marked leaves as many
-pub length_marked : (l m : List Bool) (at : ℕ) (on : Bool) → m ≡ set l at on → length l ≡ 128 → length m ≡ 128
-length_marked l m at on e h = rw e (length-set l at on ∙ h)
-
--- and so does a pass
-pub length_gone : (l m : List Bool) (sa da : ℕ) → m ≡ passed sa da l → length l ≡ 128 → length m ≡ 128
-length_gone l m sa da e h = rw e (length_passed sa da l ∙ h)
-
-pub neighbours_stored : (flags : List Bool) (r : TokenRing) (next previous : Address)
-    → next.0 ≡ next_of r.this_station.0 flags → previous.0 ≡ previous_of r.this_station.0 flags
-    → record {
-      active_stations = flags;
-      las_state = r.las_state;
-      this_station = r.this_station;
-      next_station = next;
-      previous_station = previous;
-    }
-    ≡ with_flags flags r
-unfolding with_flags
-neighbours_stored flags r next previous n p = rw (← n, ← p)
 
 -- ---- an own, set or removed address: above 125 it is refused
 
@@ -164,36 +137,3 @@ pub witnessed_effect : (sa da : ℕ) (r : TokenRing) → sa ≤ 125 → da ≤ 1
     → witnessed sa da r ≡ effected (effect_of r.las_state sa da r.active_stations) sa da r
 unfolding witnessed
 witnessed_effect sa da r h k = rw (le-ltb 125 sa h, le-ltb 125 da k)
-
--- what the code puts together where it has heard an effect
-module _ (e : Effect) (sa da : ℕ) (r : TokenRing) (h : Heard) (exit : List Bool) (k : Hears e sa da r.active_stations h exit) where
-  pub length_heard : length exit ≡ length r.active_stations
-  length_heard = rw k.flags (length_if e.update _ _ _ (length_passed sa da r.active_stations) refl)
-
-  abbrev put_together : Address → Address → TokenRing
-  put_together next previous =
-      record {
-        active_stations = exit;
-        las_state = h.state;
-        this_station = r.this_station;
-        next_station = next;
-        previous_station = previous;
-      }
-
-  pub effected_updated : (next previous : Address) → h.updated ≡ true
-      → next.0 ≡ next_of r.this_station.0 exit → previous.0 ≡ previous_of r.this_station.0 exit
-      → put_together next previous ≡ effected e sa da r
-  unfolding effected in_phase updated with_flags
-  effected_updated next previous u n p =
-      let t : e.update ≡ true = sym k.updated ∙ u in
-      let f : exit ≡ passed sa da r.active_stations = k.flags ∙ rw t in
-      rw (t, ← f, ← n, ← p, k.state)
-
-  pub effected_same : (next previous : Address) → h.updated ≡ false
-      → next ≡ r.next_station → previous ≡ r.previous_station
-      → put_together next previous ≡ effected e sa da r
-  unfolding effected in_phase
-  effected_same next previous u n p =
-      let t : e.update ≡ false = sym k.updated ∙ u in
-      let f : exit ≡ r.active_stations = k.flags ∙ rw t in
-      rw (t, f, n, p, k.state)

@@ -1,19 +1,17 @@
 -- What the searches find, said of the set of active addresses: the lowest from an address upward (`lowest_found`, `lowest_none`), the highest below
 -- one (`highest_found`, `highest_none`), and nothing in a range (`quiet_all`, `all_quiet`).
-use Rattle.std.proofs.Common.{◌≡◌, ℕ, zero, suc, ◌+◌, ◌-◌, ◌<◌, ◌≤◌, Bool, true, false, ◌⊎◌, List, [], ◌∷◌, length, take, drop, sym, refl, ◌∙◌, inl, inr, ⊎_elim, arith, length-take, get_or-drop, get_or-take}
+use Rattle.std.proofs.Common.{◌≡◌, ℕ, zero, suc, ◌+◌, ◌-◌, ◌<◌, ◌≤◌, Bool, true, false, ◌⊎◌, List, [], ◌∷◌, length, take, drop, sym, refl, ◌∙◌, inl, inr, ⊎_elim, arith, length-take, get_or-drop, get_or-take, None, Option, Some}
 use mathlib.Core.Logic.{by_cases}
-use mathlib.Core.Option.{Option, none, some}
 use native.Mathlib.Decide.{dec_lt}
 use lib.ListN.{get_or-eq_default}
 use Rattle.ground.proofs.Injective.{injective, zero_one}
-use Rattle.token_ring.specs.declared.found.Found.{Found}
-use Rattle.token_ring.specs.declared.found.Found.TheVariants.{Station, Nothing}
 use Rattle.token_ring.specs.Flags.{active, all_clear, quiet, lowest, lowest_from, highest, highest_below, shown_found}
 use Rattle.token_ring.specs.Meaning.{LowestFrom, HighestBelow}
+use Rattle.ground.specs.declared.address.Address.{Address}
 
 -- ---- a flag is set or not
 
-some_same : {m n : ℕ} → ◌≡◌ {A = Option ℕ} (some m) (some n) → m ≡ n
+some_same : {m n : ℕ} → ◌≡◌ {A = Option ℕ} (Some m) (Some n) → m ≡ n
 some_same e = cc
 
 pub both : {A : Type 0} {x : Bool} → x ≡ true → x ≡ false → A
@@ -36,7 +34,7 @@ record LowestAt (k : ℕ) (xs : List Bool) (a : ℕ) : Type 0 where
   is_set : active xs index ≡ true
   least : (j : ℕ) → active xs j ≡ true → index ≤ j
 
-lowest_at : (k : ℕ) (xs : List Bool) (a : ℕ) → lowest k xs ≡ some a → LowestAt k xs a
+lowest_at : (k : ℕ) (xs : List Bool) (a : ℕ) → lowest k xs ≡ Some a → LowestAt k xs a
 lowest_at k [] a e = absurd (zero_one (cc))
 lowest_at k (true ∷ xs) a e =
     let z : k ≡ a = cc in
@@ -50,7 +48,7 @@ lowest_at k (false ∷ xs) a e = further (lowest_at (suc k) xs a e)
     further : LowestAt (suc k) xs a → LowestAt k (false ∷ xs) a
     further w = record { index = suc w.index; place = omega arith; is_set = w.is_set; least = least_after w.index w.least }
 
-lowest_nowhere : (k : ℕ) (xs : List Bool) → lowest k xs ≡ none → (j : ℕ) → active xs j ≡ false
+lowest_nowhere : (k : ℕ) (xs : List Bool) → lowest k xs ≡ None → (j : ℕ) → active xs j ≡ false
 lowest_nowhere k [] e j = refl
 lowest_nowhere k (true ∷ xs) e j = absurd (zero_one (cc))
 lowest_nowhere k (false ∷ xs) e zero = refl
@@ -63,7 +61,7 @@ from_drop from l b h =
     get_or-drop from l (b - from) false ∙ rw e
 
 -- what the search from an address upward finds is the lowest of the set from there
-pub lowest_found : (from : ℕ) (l : List Bool) (a : ℕ) → lowest_from from l ≡ some a → LowestFrom from l a
+pub lowest_found : (from : ℕ) (l : List Bool) (a : ℕ) → lowest_from from l ≡ Some a → LowestFrom from l a
 unfolding lowest_from
 lowest_found from l a e = said (lowest_at from (drop from l) a e)
   where
@@ -76,7 +74,7 @@ lowest_found from l a e = said (lowest_at from (drop from l) a e)
         }
 
 -- where it finds nothing, nothing from there upward is active
-pub lowest_none : (from : ℕ) (l : List Bool) → lowest_from from l ≡ none → (b : ℕ) → from ≤ b → active l b ≡ false
+pub lowest_none : (from : ℕ) (l : List Bool) → lowest_from from l ≡ None → (b : ℕ) → from ≤ b → active l b ≡ false
 unfolding lowest_from
 lowest_none from l e b h = sym (from_drop from l b h) ∙ lowest_nowhere from (drop from l) e (b - from)
 
@@ -90,7 +88,7 @@ record HighestAt (k : ℕ) (xs : List Bool) (a : ℕ) : Type 0 where
 
 -- of two parts: what was found below is the answer and nothing here is active, or the answer is here
 abbrev HighestOr : ℕ → List Bool → Option ℕ → ℕ → Type 0
-HighestOr k xs d a = ((d ≡ some a) × ((j : ℕ) → active xs j ≡ false)) ⊎ HighestAt k xs a
+HighestOr k xs d a = ((d ≡ Some a) × ((j : ℕ) → active xs j ≡ false)) ⊎ HighestAt k xs a
 
 nowhere_after : (xs : List Bool) → ((j : ℕ) → active xs j ≡ false) → (j : ℕ) → active (false ∷ xs) j ≡ false
 nowhere_after xs h zero = refl
@@ -107,19 +105,19 @@ most_after x xs i h (suc j) f = let m : j ≤ i = h j f in omega arith
 highest_after : (k : ℕ) (x : Bool) (xs : List Bool) (a : ℕ) → HighestAt (suc k) xs a → HighestAt k (x ∷ xs) a
 highest_after k x xs a w = record { index = suc w.index; place = omega arith; is_set = w.is_set; most = most_after x xs w.index w.most }
 
-highest_at : (k : ℕ) (xs : List Bool) (d : Option ℕ) (a : ℕ) → highest k xs d ≡ some a → HighestOr k xs d a
+highest_at : (k : ℕ) (xs : List Bool) (d : Option ℕ) (a : ℕ) → highest k xs d ≡ Some a → HighestOr k xs d a
 highest_at k [] d a e = inl (e, λ j. refl)
 highest_at k (true ∷ xs) d a e =
     ⊎_elim
     (λ w. let z : k ≡ a = some_same w.0 in inr (record { index = 0; place = omega arith; is_set = refl; most = most_first xs w.1 }))
     (λ w. inr (highest_after k true xs a w))
-    (highest_at (suc k) xs (some k) a e)
+    (highest_at (suc k) xs (Some k) a e)
 highest_at k (false ∷ xs) d a e =
     ⊎_elim (λ w. inl (w.0, nowhere_after xs w.1)) (λ w. inr (highest_after k false xs a w)) (highest_at (suc k) xs d a e)
 
-highest_nowhere : (k : ℕ) (xs : List Bool) (d : Option ℕ) → highest k xs d ≡ none → (d ≡ none) × ((j : ℕ) → active xs j ≡ false)
+highest_nowhere : (k : ℕ) (xs : List Bool) (d : Option ℕ) → highest k xs d ≡ None → (d ≡ None) × ((j : ℕ) → active xs j ≡ false)
 highest_nowhere k [] d e = (e, λ j. refl)
-highest_nowhere k (true ∷ xs) d e = absurd (zero_one (let w : ◌≡◌ {A = Option ℕ} (some k) none = (highest_nowhere (suc k) xs (some k) e).0 in cc))
+highest_nowhere k (true ∷ xs) d e = absurd (zero_one (let w : ◌≡◌ {A = Option ℕ} (Some k) None = (highest_nowhere (suc k) xs (Some k) e).0 in cc))
 highest_nowhere k (false ∷ xs) d e = let w = highest_nowhere (suc k) xs d e in (w.0, nowhere_after xs w.1)
 
 -- a flag among the first ones is one below
@@ -127,9 +125,9 @@ below_take : (to : ℕ) (l : List Bool) (i : ℕ) → active (take to l) i ≡ t
 below_take to l i e = let h : i < length (take to l) = active_within (take to l) i e in omega (arith, length-take to l)
 
 -- what the search below an address finds is the highest of the set below it
-pub highest_found : (to : ℕ) (l : List Bool) (a : ℕ) → highest_below to l ≡ some a → HighestBelow to l a
+pub highest_found : (to : ℕ) (l : List Bool) (a : ℕ) → highest_below to l ≡ Some a → HighestBelow to l a
 unfolding highest_below
-highest_found to l a e = ⊎_elim (λ w. absurd (zero_one (let v : ◌≡◌ {A = Option ℕ} none (some a) = w.0 in cc))) said (highest_at 0 (take to l) none a e)
+highest_found to l a e = ⊎_elim (λ w. absurd (zero_one (let v : ◌≡◌ {A = Option ℕ} None (Some a) = w.0 in cc))) said (highest_at 0 (take to l) None a e)
   where
     said : HighestAt 0 (take to l) a → HighestBelow to l a
     said w =
@@ -142,9 +140,9 @@ highest_found to l a e = ⊎_elim (λ w. absurd (zero_one (let v : ◌≡◌ {A 
         }
 
 -- where it finds nothing, nothing below is active
-pub highest_none : (to : ℕ) (l : List Bool) → highest_below to l ≡ none → (b : ℕ) → b < to → active l b ≡ false
+pub highest_none : (to : ℕ) (l : List Bool) → highest_below to l ≡ None → (b : ℕ) → b < to → active l b ≡ false
 unfolding highest_below
-highest_none to l e b h = sym (get_or-take to l b false h) ∙ (highest_nowhere 0 (take to l) none e).1 b
+highest_none to l e b h = sym (get_or-take to l b false h) ∙ (highest_nowhere 0 (take to l) None e).1 b
 
 -- ---- nothing in a range
 
@@ -175,13 +173,13 @@ all_quiet from to l h =
 
 -- ---- a search has one answer: two that are shown alike are the same
 
-abbrev found_back : Option ℕ → Found
-found_back (some n) = Station (record { 0 = n })
-found_back none = Nothing
+abbrev found_back : Option ℕ → Option Address
+found_back (Some n) = Some (record { 0 = n })
+found_back None = None
 
-found_again : (f : Found) → found_back (shown_found f) ≡ f
-found_again (Station a) = refl
-found_again Nothing = refl
+found_again : (f : Option Address) → found_back (shown_found f) ≡ f
+found_again (Some a) = refl
+found_again None = refl
 
-pub shown_found_injective : (f g : Found) → shown_found f ≡ shown_found g → f ≡ g
+pub shown_found_injective : (f g : Option Address) → shown_found f ≡ shown_found g → f ≡ g
 shown_found_injective = injective shown_found found_back found_again

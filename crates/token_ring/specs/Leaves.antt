@@ -11,11 +11,6 @@ pub record Hears (e : Effect) (sa da : ℕ) (entry : List Bool) (h : Heard) (exi
   pub updated : h.updated ≡ e.update
   pub flags : exit ≡ if e.update (passed sa da entry) entry
 
--- the same place, or the end of the flags where it is past them
-pub record AtMost (to r : ℕ) : Type 0 where
-  pub place : r ≡ min to 128
-  pub bound : r ≤ 128
-
 -- how far a place lies above another, or below it, round the 128 places
 abbrev pub away : Bool → ℕ → ℕ → ℕ
 away true from at = (at + 128 - from) % 128

@@ -1,7 +1,6 @@
 -- Document 01, "The station list": the rules, over the flags and over the whole list. Read `made`, `witnessed` with `effect_of`, `claimed`, `next_set`
 -- and `removed`, each the promise of a call.
-use Rattle.std.specs.Prelude.{ℕ, suc, Bool, true, false, ◌&&◌, ◌||◌, List, replicate, nat_le, nat_lt, slice_set}
-use Rattle.std.proofs.Math.Option.{Option, none, some}
+use Rattle.std.specs.Prelude.{ℕ, suc, Bool, true, false, ◌&&◌, ◌||◌, List, replicate, nat_le, nat_lt, None, Option, slice_set, Some}
 use Rattle.ground.specs.Pick.{if}
 use Rattle.token_ring.specs.Flags.{active, cleared, quiet, lowest_from, highest_below}
 use Rattle.token_ring.specs.declared.las_state.LasState.{LasState}
@@ -22,8 +21,8 @@ passed sa da flags = slice_set (swept sa da flags) sa true
 
 -- what a search found, else another address
 abbrev pub or_else : Option ℕ → ℕ → ℕ
-or_else (some a) other = a
-or_else none other = other
+or_else (Some a) other = a
+or_else None other = other
 
 -- next is the lowest active above own, else the lowest active, else own
 unfoldable pub next_of : ℕ → List Bool → ℕ

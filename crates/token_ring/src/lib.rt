@@ -2,10 +2,8 @@
 #![tactic(auto)]
 
 mod flags;
-pub mod found;
 pub mod las_state;
 pub mod ring;
 
-pub use found::Found;
 pub use las_state::LasState;
-pub use ring::{Changed, TokenRing};
+pub use ring::TokenRing;

@@ -1,17 +1,16 @@
 // The station list: profirust's `TokenRing`. It goes in by value and comes back. Promises: `made`, `witnessed`, `claimed`, `next_set` and `removed` in
 // specs/Rules.antt.
-ghost use Rattle.std.specs.Prelude.{◌≡◌, suc, ◌<◌, length};
+ghost use Rattle.std.specs.Prelude.{◌≡◌, suc, ◌<◌, ◌≤◌};
 ghost use Rattle.ground.specs.Pick.{if};
 ghost use Rattle.token_ring.specs.Flags.{active, lowest_from, highest_below, shown_found};
 ghost use Rattle.token_ring.specs.Phases.{is_valid};
 ghost use Rattle.token_ring.specs.Leaves.{Hears};
 ghost use Rattle.token_ring.specs.Promises.{Gives};
-ghost use Rattle.token_ring.specs.Rules.{claimed, effect_of, fresh, in_phase, made, next_set, removed, station_answer, witnessed, wrap};
+ghost use Rattle.token_ring.specs.Rules.{claimed, effect_of, fresh, in_phase, made, next_set, removed, station_answer, with_flags, witnessed, wrap};
 
 use crate::flags::{highest_below, lowest_from, mark, next_of, pass, previous_of, verify};
-use crate::found::Found;
 use crate::las_state::LasState;
-use ground::{Address, Answer, Refusal};
+use ground::{Address, Refusal, Returned};
 
 // Management of the token ring from the station's point of view.
 #[derive(Clone, Copy)]
@@ -30,31 +29,26 @@ pub struct TokenRing {
     previous_station: Address,
 }
 
-// The answer of a call that may refuse, and the list.
-#[derive(Clone, Copy)]
-pub struct Changed {
-    pub answer: Answer,
-    pub ring: TokenRing,
-}
-
 // The list before anything was heard.
-fn fresh_ring(own: u8) -> TokenRing
-    requires { own < 128 }
-    ensures { result ≡ fresh own }
+#[tactic(auto, unfolding(crate::specs::Rules::fresh))]
+fn fresh_ring(own: Address) -> TokenRing
+    requires { own.0 < 128 }
+    ensures { result ≡ fresh own.0 }
 {
     let mut active_stations = [false; 128];
     // Mark ourselves in the list of active stations.
-    active_stations[own as usize] = true;
+    active_stations[own.0 as usize] = true;
     TokenRing {
         active_stations,
         las_state: LasState::Uninitialized,
-        this_station: Address(own),
-        next_station: Address(own),
-        previous_station: Address(own),
+        this_station: own,
+        next_station: own,
+        previous_station: own,
     }
 }
 
 // What a witnessed pass did: the phase after it, and whether the flags were updated.
+// (A flag beside the phase and no `Option`: each pass has both.)
 #[derive(Clone, Copy)]
 struct Heard {
     state: LasState,
@@ -68,8 +62,9 @@ fn after_wrap(sa: usize, da: usize, wrapped: LasState, same: LasState) -> LasSta
     if da <= sa { wrapped } else { same }
 }
 
+#[tactic(auto, unfolding(crate::specs::Rules::effect_of))]
 fn hear_verification(flags: &mut [bool; 128], sa: usize, da: usize) -> Heard
-    requires { (sa < 128) × (da < 128) × (length flags.old ≡ 128) }
+    requires { (sa < 128) × (da < 128) }
     ensures { Hears (effect_of LasState.Verification sa da flags.old) sa da flags.old result flags.new }
 {
     if verify(flags, sa, da) {
@@ -87,8 +82,10 @@ fn hear_verification(flags: &mut [bool; 128], sa: usize, da: usize) -> Heard
 }
 
 // Works on the lent flags and tells what it did, so that the list around them is put together in one place and copied once.
+// (That `sa` and `da` are below 128 is asked here and in the two functions that this comes to: a type for such places would be longer.)
+#[tactic(auto, unfolding(crate::specs::Rules::effect_of))]
 fn hear(flags: &mut [bool; 128], state: LasState, sa: usize, da: usize) -> Heard
-    requires { (sa < 128) × (da < 128) × (length flags.old ≡ 128) }
+    requires { (sa < 128) × (da < 128) }
     ensures { Hears (effect_of state sa da flags.old) sa da flags.old result flags.new }
 {
     match state {
@@ -118,19 +115,19 @@ fn hear(flags: &mut [bool; 128], state: LasState, sa: usize, da: usize) -> Heard
 impl TokenRing {
     // Beside a refusal stands the list of address 0, so that every list that comes from here, and what the calls make of it, has an own
     // address up to 125.
-    pub fn new(own: Address) -> Changed
+    #[tactic(auto, using(crate::proofs::RuleLaws::answers_11, crate::proofs::RuleLaws::answers_done, crate::proofs::RuleLaws::made_fresh, crate::proofs::RuleLaws::made_refused))]
+    pub fn new(own: Address) -> Returned<Result<(), Refusal>, TokenRing>
         ensures { Gives (station_answer own.0) (made own.0) result }
     {
-        let address = own.0;
-        if 125 < address {
-            return Changed {
-                answer: Answer::Refused(Refusal::NotAStation),
-                ring: fresh_ring(0),
+        if 125 < own.0 {
+            return Returned {
+                answer: Err(Refusal::NotAStation),
+                after: fresh_ring(Address(0)),
             };
         }
-        Changed {
-            answer: Answer::Done,
-            ring: fresh_ring(address),
+        Returned {
+            answer: Ok(()),
+            after: fresh_ring(own),
         }
     }
 
@@ -164,8 +161,7 @@ impl TokenRing {
     pub fn ready_for_ring(self) -> bool
         ensures { result ≡ is_valid self.las_state }
     {
-        let state = self.las_state;
-        state.is_valid()
+        self.las_state.is_valid()
     }
 
     pub fn this_station(self) -> Address
@@ -196,126 +192,99 @@ impl TokenRing {
         ensures { result ≡ active self.active_stations address.0 }
     {
         let at = address.0 as usize;
-        if 128 <= at {
-            return false;
-        }
-        self.active_stations[at]
+        at < 128 && self.active_stations[at]
     }
 
     // The first active station from `address` upward. Asked again from the address after the one found, it goes through the active stations
     // as the Rust's `iter_active_stations` does.
-    pub fn first_active_from(self, address: Address) -> Found
+    pub fn first_active_from(self, address: Address) -> Option<Address>
         ensures { shown_found result ≡ lowest_from address.0 self.active_stations }
     {
-        let from = address.0 as usize;
-        lowest_from(&self.active_stations, from)
+        lowest_from(&self.active_stations, address.0 as usize)
     }
 
     // The last active station up to `address`: the same backward.
-    pub fn last_active_to(self, address: Address) -> Found
+    pub fn last_active_to(self, address: Address) -> Option<Address>
         ensures { shown_found result ≡ highest_below (suc address.0) self.active_stations }
     {
-        let to = address.0 as usize + 1;
-        highest_below(&self.active_stations, to)
+        highest_below(&self.active_stations, address.0 as usize + 1)
     }
 
-    // A field that is an enum is not stored to: the list is put together anew.
-    fn with_state(self, las_state: LasState) -> TokenRing
-        ensures { result ≡ in_phase las_state self }
+    // Next and previous as the flags give them.
+    #[tactic(auto, unfolding(crate::specs::Rules::with_flags))]
+    fn find_neighbours(&mut self)
+        ensures { self.new ≡ with_flags self.old.active_stations self.old }
     {
-        let active_stations = self.active_stations;
-        let this_station = self.this_station;
-        let next_station = self.next_station;
-        let previous_station = self.previous_station;
-        TokenRing {
-            active_stations,
-            las_state,
-            this_station,
-            next_station,
-            previous_station,
-        }
+        let own = self.this_station.0;
+        self.next_station = next_of(&self.active_stations, own);
+        self.previous_station = previous_of(&self.active_stations, own);
     }
 
+    #[tactic(auto, using(crate::proofs::RuleLaws::witnessed_ignored, crate::proofs::RuleLaws::witnessed_effect), unfolding(crate::specs::Rules::effected, crate::specs::Rules::in_phase, crate::specs::Rules::updated, crate::specs::Rules::with_flags))]
     pub fn witness_token_pass(mut self, sa: Address, da: Address) -> TokenRing
         ensures { result ≡ witnessed sa.0 da.0 self }
     {
-        let from = sa.0;
-        let to = da.0;
-        if 125 < from {
+        if 125 < sa.0 || 125 < da.0 {
             return self;
         }
-        if 125 < to {
-            return self;
-        }
-        let state = self.las_state;
-        let own = self.this_station.0;
-        let heard = hear(&mut self.active_stations, state, from as usize, to as usize);
-        let after = heard.state;
-        let mut next_station = self.next_station;
-        let mut previous_station = self.previous_station;
+        let heard = hear(
+            &mut self.active_stations,
+            self.las_state,
+            sa.0 as usize,
+            da.0 as usize,
+        );
+        self.las_state = heard.state;
         if heard.updated {
-            next_station = next_of(&self.active_stations, own);
-            previous_station = previous_of(&self.active_stations, own);
+            self.find_neighbours();
         }
-        let active_stations = self.active_stations;
-        let this_station = self.this_station;
-        TokenRing {
-            active_stations,
-            las_state: after,
-            this_station,
-            next_station,
-            previous_station,
-        }
+        self
     }
 
+    #[tactic(auto, unfolding(crate::specs::Rules::in_phase))]
     pub fn claim_token(mut self) -> TokenRing
         ensures { result ≡ claimed self }
     {
-        self.with_state(LasState::Valid)
+        self.las_state = LasState::Valid;
+        self
     }
 
-    pub fn set_next_station(mut self, address: Address) -> Changed
+    #[tactic(auto, using(crate::proofs::RuleLaws::answers_11, crate::proofs::RuleLaws::answers_done, crate::proofs::RuleLaws::set_done, crate::proofs::RuleLaws::set_refused), unfolding(crate::specs::Rules::with_flags))]
+    pub fn set_next_station(mut self, address: Address) -> Returned<Result<(), Refusal>, TokenRing>
         ensures { Gives (station_answer address.0) (next_set address.0 self) result }
     {
         let next = address.0;
         if 125 < next {
-            return Changed {
-                answer: Answer::Refused(Refusal::NotAStation),
-                ring: self,
+            return Returned {
+                answer: Err(Refusal::NotAStation),
+                after: self,
             };
         }
-        let own = self.this_station.0;
         mark(&mut self.active_stations, next as usize, true);
+        let own = self.this_station.0;
         pass(&mut self.active_stations, own as usize, next as usize);
-        let after = next_of(&self.active_stations, own);
-        let before = previous_of(&self.active_stations, own);
-        self.next_station = after;
-        self.previous_station = before;
-        Changed {
-            answer: Answer::Done,
-            ring: self,
+        self.find_neighbours();
+        Returned {
+            answer: Ok(()),
+            after: self,
         }
     }
 
-    pub fn remove_station(mut self, address: Address) -> Changed
+    #[tactic(auto, using(crate::proofs::RuleLaws::answers_11, crate::proofs::RuleLaws::answers_done, crate::proofs::RuleLaws::remove_done, crate::proofs::RuleLaws::remove_refused_lem), unfolding(crate::specs::Rules::with_flags))]
+    pub fn remove_station(mut self, address: Address) -> Returned<Result<(), Refusal>, TokenRing>
         ensures { Gives (station_answer address.0) (removed address.0 self) result }
     {
         let gone = address.0;
         if 125 < gone {
-            return Changed {
-                answer: Answer::Refused(Refusal::NotAStation),
-                ring: self,
+            return Returned {
+                answer: Err(Refusal::NotAStation),
+                after: self,
             };
         }
-        let own = self.this_station.0;
         mark(&mut self.active_stations, gone as usize, false);
-        let after = next_of(&self.active_stations, own);
-        let before = previous_of(&self.active_stations, own);
-        self.next_station = after;
-        self.previous_station = before;
-        Changed {
-            answer: Answer::Done,
-            ring: self,
+        self.find_neighbours();
+        Returned {
+            answer: Ok(()),
+            after: self,
         }
     }
 }

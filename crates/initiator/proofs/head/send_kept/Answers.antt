@@ -1,4 +1,5 @@
--- `send_kept` meets its contract: the pending order is the front of the lent bytes.
+-- `send_kept` meets its contract: the pending order is the front of the lent bytes. By hand, since `order_len` promises its length for every
+-- order, and no tactic picks one.
 use mathlib.Core.List.{[]}
 use mathlib.Core.Path.{sym}
 use native.Mathlib.Omega.{arith}

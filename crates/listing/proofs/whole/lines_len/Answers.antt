@@ -5,7 +5,7 @@ use native.Mathlib.Omega.{arith}
 use lib.ListN.{length}
 use Rattle.telegram.proofs.ByteLaws.{drop_bytes}
 use Rattle.listing.proofs.ItemLaws.{item_short, item_reason}
-use Rattle.listing.proofs.ListingLaws.{ends_within, counts_on, counts_all, item_part, lines_small}
+use Rattle.listing.proofs.ListingLaws.{counts_on, counts_all, item_part, lines_small}
 use Rattle.listing.proofs.whole.lines_len.Goals as goal
 
 pub item_len-len-requires : goal.item_len-len-requires
@@ -24,16 +24,6 @@ overflow_add-len c =
 pub returns-in_default : goal.returns-in_default
 returns-in_default c =
     counts_all c.loop-line.invariant c.item_at-item.ensures c.item_len-len.ensures c.in_default.is
-
-pub overflow_add-at : goal.overflow_add-at
-overflow_add-at c =
-    let e = ends_within _ _ _ c.loop-line.invariant.within (sym c.item_at-item.ensures ∙ c.in-Telegram.is) in
-    omega (arith, e, c.requires)
-
-pub loop-line-smaller : goal.loop-line-smaller
-loop-line-smaller c =
-    let e = ends_within _ _ _ c.loop-line.invariant.within (sym c.item_at-item.ensures ∙ c.in-Telegram.is) in
-    omega (arith, e)
 
 pub loop-line-preserved : goal.loop-line-preserved
 loop-line-preserved c =

@@ -1,9 +1,9 @@
 -- `put_content` meets its contract: its two fields and the line feed are placed one behind the other.
+use Rattle.std.proofs.Common.{rules}
 use Rattle.text.proofs.PlacedLaws.{then}
 use Rattle.listing_lines.specs.Lines.{content_of}
 use Rattle.listing_lines.proofs.line.put_content.Goals as goal
 
 pub returns : goal.returns
 unfolding content_of
-returns c =
-    then (then c.put_figure-pdu_to.ensures c.put_figure-end.ensures) c.put_byte.ensures
+returns c = search (rules, then)

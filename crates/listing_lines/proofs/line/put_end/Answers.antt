@@ -1,9 +1,9 @@
 -- `put_end` meets its contract: the end, its place and the line feed are placed one behind the other.
+use Rattle.std.proofs.Common.{rules}
 use Rattle.text.proofs.PlacedLaws.{then}
 use Rattle.listing_lines.specs.Lines.{end_of}
 use Rattle.listing_lines.proofs.line.put_end.Goals as goal
 
 pub returns : goal.returns
 unfolding end_of
-returns c =
-    then (then c.put_end_name-at_to.ensures c.put_number-feed.ensures) c.put_byte.ensures
+returns c = search (rules, then)

@@ -1,9 +1,9 @@
 -- `put_place` meets its contract: its three fields are placed one behind the other.
+use Rattle.std.proofs.Common.{rules}
 use Rattle.text.proofs.PlacedLaws.{then}
 use Rattle.listing_lines.specs.Lines.{place_of}
 use Rattle.listing_lines.proofs.line.put_place.Goals as goal
 
 pub returns : goal.returns
 unfolding place_of
-returns c =
-    then (then c.put_number-kind_to.ensures c.put_kind-len_to.ensures) c.put_number.ensures
+returns c = search (rules, then)

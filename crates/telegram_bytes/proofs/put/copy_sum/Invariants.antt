@@ -1,13 +1,8 @@
 -- `copy_sum` meets its contract. The loop's invariant: the first i bytes are copied, and the sum so far and the bytes that
 -- are left add up to the whole.
-use Rattle.std.proofs.Common.{◌≡◌, ◌-◌, ◌<◌, ◌≤◌, length}
-use Rattle.ground.proofs.FrontLaws.{Copied}
 use Rattle.codes.proofs.ChecksumLaws.{Summed}
+use Rattle.telegram_bytes.proofs.LeafLaws.{Copied}
 use Rattle.telegram_bytes.proofs.put.copy_sum.Given as goal
 
 abbrev pub invariant-loop-i : goal.invariant-loop-i
-invariant-loop-i l =
-    (l.i ≤ length l.src) × (length l.dst ≡ length l.initial.dst) × (l.total < 256) × Copied l.src l.initial.dst l.i l.dst × Summed l.src l.sum l.i l.total
-
-abbrev pub decreases-loop-i : goal.decreases-loop-i
-decreases-loop-i l = length l.src - l.i
+invariant-loop-i l = Copied l.src l.initial.dst l.i l.dst × Summed l.src l.sum l.i l.total

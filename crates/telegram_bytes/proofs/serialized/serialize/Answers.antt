@@ -1,9 +1,9 @@
--- `serialize` meets its contract: an address above 127 is refused first.
-use Rattle.telegram_bytes.proofs.SerializedLaws.{refused_8_da, refused_8_sa}
+-- `serialize` meets its contract: `put_telegram` tells whether there is room.
+use Rattle.telegram_bytes.proofs.SerializedLaws.{fitted_serialized}
 use Rattle.telegram_bytes.proofs.serialized.serialize.Goals as goal
 
-pub returns-then-da-gt127 : goal.returns-then-da-gt127
-returns-then-da-gt127 c = refused_8_da _ _ _ c.if-da-gt127.true
-
-pub returns-then-sa-gt127 : goal.returns-then-sa-gt127
-returns-then-sa-gt127 c = refused_8_sa _ _ _ c.if-sa-gt127.true
+pub returns : goal.returns
+returns c =
+    fitted_serialized c.args.header c.args.pdu.now c.args.buf.now c.if-header-gt127.false c.if-header-gt127-2.false
+    (rw c.length_byte-l.ensures at c.if-l-gt249.false)
+    c.put_telegram.result c.put_telegram.ensures c.ok_or.ensures.value

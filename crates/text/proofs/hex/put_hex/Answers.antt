@@ -1,8 +1,6 @@
--- `put_hex` meets its contract: after i turns the digits of the first i bytes are placed, and a turn places those of one more.
-use Rattle.text.proofs.HexLaws.{hex_append}
-use Rattle.text.proofs.PlacedLaws.{rows_turn}
+-- The digits of one byte more are placed.
+use Rattle.text.proofs.HexLaws.{hex_turn}
 use Rattle.text.proofs.hex.put_hex.Goals as goal
 
-pub loop-i-preserved : goal.loop-i-preserved
-loop-i-preserved c =
-    rows_turn _ hex_append c.loop-i-test.true c.loop-i.invariant c.put_hex_byte-next.ensures
+pub loop-b-preserved : goal.loop-b-preserved
+loop-b-preserved c = hex_turn c.args.bytes.now _ c.loop-b-test.true c.loop-b.invariant c.put_hex_byte-next.ensures

@@ -1,12 +1,8 @@
--- `put_hex` meets its contract: after i turns the digits of the first i bytes are placed, and a turn places those of one more.
-use Prim.Native.Nat.{◌-◌}
-use lib.ListN.{length}
+-- After i turns the digits of the first i bytes are placed.
+use lib.ListN.{take}
 use Rattle.text.specs.Hex.{hex_of}
-use Rattle.text.proofs.PlacedLaws.{Rows}
+use Rattle.text.specs.Placed.{Placed}
 use Rattle.text.proofs.hex.put_hex.Given as goal
 
-abbrev pub invariant-loop-i : goal.invariant-loop-i
-invariant-loop-i l = Rows hex_of l.initial.buf l.at l.bytes l.buf l.next l.i
-
-abbrev pub decreases-loop-i : goal.decreases-loop-i
-decreases-loop-i l = length l.bytes - l.i
+abbrev pub invariant-loop-b : goal.invariant-loop-b
+invariant-loop-b l = Placed l.initial.buf l.at (hex_of (take l.b-index l.bytes)) l.next l.buf

@@ -1,12 +1,7 @@
--- `put_bytes` meets its contract: after i turns the first i bytes are placed, and a turn places one more behind them.
-use mathlib.Core.List.{List}
-use Prim.Native.Nat.{ℕ, ◌-◌}
-use lib.ListN.{length}
-use Rattle.text.proofs.PlacedLaws.{Rows}
+-- After i turns the first i bytes are placed.
+use lib.ListN.{take}
+use Rattle.text.specs.Placed.{Placed}
 use Rattle.text.proofs.place.put_bytes.Given as goal
 
-abbrev pub invariant-loop-i : goal.invariant-loop-i
-invariant-loop-i l = Rows (λ (s : List ℕ). s) l.initial.buf l.at l.bytes l.buf l.next l.i
-
-abbrev pub decreases-loop-i : goal.decreases-loop-i
-decreases-loop-i l = length l.bytes - l.i
+abbrev pub invariant-loop-b : goal.invariant-loop-b
+invariant-loop-b l = Placed l.initial.buf l.at (take l.b-index l.bytes) l.next l.buf

@@ -1,14 +1,9 @@
 -- `previous_of` meets its contract: the nearest station below our own place is the previous one.
-use Rattle.std.proofs.Common.{eq-eqb, ne_eqb}
-use Rattle.token_ring.proofs.NearestLaws.{previous_nearest}
+use Rattle.std.proofs.Common.{◌∙◌}
+use Rattle.token_ring.proofs.NearestLaws.{previous_found}
 use Rattle.token_ring.proofs.flags.previous_of.Goals as goal
 
-pub returns-then-away : goal.returns-then-away
-returns-then-away c =
-    let x = rw c.place_below-from.ensures at c.nearest-away.ensures in
-    rw (eq-eqb _ _ c.if-away.true) at (previous_nearest _ _ _ c.requires x)
-
-pub returns : goal.returns
-returns c =
-    let x = rw c.place_below-from.ensures at c.nearest-away.ensures in
-    rw (c.away_from.ensures, c.place_below-from.ensures) (rw (ne_eqb _ _ c.if-away.false) at (previous_nearest _ _ _ c.requires x))
+pub returns-in-Some : goal.returns-in-Some
+returns-in-Some c =
+    let e = c.place_below-from.ensures in
+    c.away_from.ensures ∙ rw e (previous_found _ _ _ c.told-flags c.in-Some.ensures.small (rw e at c.in-Some.ensures.least))

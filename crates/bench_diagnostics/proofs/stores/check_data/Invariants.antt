@@ -1,0 +1,6 @@
+-- Each byte string takes a word from what is left of the line.
+use Rattle.std.proofs.Common.{length}
+use Rattle.bench_diagnostics.proofs.stores.check_data.Given as goal
+
+abbrev pub decreases-loop-words : goal.decreases-loop-words
+decreases-loop-words l = length l.words.rest.now

@@ -1,0 +1,2 @@
+-- the names that are printed
+pub mod Names

@@ -1,6 +1,0 @@
--- With its room the text is made, and what was made is shown.
-use Rattle.listing.proofs.AnswerLaws.{output_shown}
-use Rattle.lister.proofs.put_output.Goals as goal
-
-pub returns : goal.returns
-returns c = output_shown _ _ (λ i. (c.type_inv.input i).fits) c.requires c.output.ensures

@@ -1,20 +1,49 @@
--- Laws of the rules: what holds where the tests refuse nothing. Read `addresses_linked`, `linked_addresses`, `tries_permitted`,
--- `permitted_tries`, `length_small`.
-use Prim.Native.Nat.{ℕ, ◌≤◌}
+-- Laws of the rules: the tests one after the other, and what holds where they refuse nothing. Read `addresses_linked`,
+-- `linked_addresses`, `tries_permitted`, `permitted_tries`, `length_small`.
+use Prim.Native.Nat.{ℕ, ◌≤◌, ◌<◌}
 use mathlib.Core.Bool.{Bool, true, false, true≢false}
 use mathlib.Core.Path.{◌≡◌, refl, sym}
 use lib.Dec.{eqb, ltb}
-use borrow.Author.Tests.{ltb-false, eqb-false, le-ltb, ne_eqb}
+use borrow.Author.Tests.{ltb-false, eqb-false, lt-ltb, le-ltb, eq-eqb, ne_eqb}
 use Rattle.ground.specs.Pick.{if}
 use Rattle.link_rules.specs.Rules.{longest, most_tries, wrong_addresses, wrong_tries, wrong_length, Linked, Permitted, turned}
 use Rattle.link_rules.specs.declared.link.Link.{Link}
 
--- an order with bytes is refused for its length alone
-pub some_bytes : (n : ℕ) → (n ≡ 0 → ⊥) → wrong_length n ≡ ltb longest n
-unfolding wrong_length
-some_bytes n d = rw (ne_eqb n 0 d)
+-- ---- the tests, one after the other
 
--- The tests refuse nothing just where the facts hold.
+module _ (link : Link) where
+  pub own_above : 125 < link.own.0 → wrong_addresses link ≡ true
+  unfolding wrong_addresses
+  own_above h = rw (lt-ltb _ _ h)
+
+  pub peer_above : link.own.0 ≤ 125 → 125 < link.peer.0 → wrong_addresses link ≡ true
+  unfolding wrong_addresses
+  peer_above h k = rw (le-ltb _ _ h, lt-ltb _ _ k)
+
+  pub both_stations : link.own.0 ≤ 125 → link.peer.0 ≤ 125 → wrong_addresses link ≡ eqb link.own.0 link.peer.0
+  unfolding wrong_addresses
+  both_stations h k = rw (le-ltb _ _ h, le-ltb _ _ k)
+
+module _ (tries : ℕ) where
+  pub no_try : tries < 1 → wrong_tries tries ≡ true
+  unfolding wrong_tries
+  no_try h = rw (lt-ltb tries 1 h)
+
+  pub some_tries : 1 ≤ tries → wrong_tries tries ≡ ltb most_tries tries
+  unfolding wrong_tries
+  some_tries h = rw (le-ltb tries 1 h)
+
+module _ (n : ℕ) where
+  pub no_bytes : n ≡ 0 → wrong_length n ≡ true
+  unfolding wrong_length
+  no_bytes e = rw (eq-eqb n 0 e)
+
+  pub some_bytes : (n ≡ 0 → ⊥) → wrong_length n ≡ ltb longest n
+  unfolding wrong_length
+  some_bytes d = rw (ne_eqb n 0 d)
+
+-- ---- the tests refuse nothing just where the facts hold
+
 pub addresses_linked : (link : Link) → wrong_addresses link ≡ false → Linked link
 unfolding wrong_addresses
 addresses_linked link e = go (ltb 125 link.own.0) refl (ltb 125 link.peer.0) refl (eqb link.own.0 link.peer.0) refl e

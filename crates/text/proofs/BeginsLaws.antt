@@ -2,17 +2,37 @@
 use mathlib.Core.Path.{◌≡◌, refl, sym, ap, ◌∙◌}
 use mathlib.Core.Bool.{Bool, true, false, ◌&&◌}
 use mathlib.Core.List.{List, [], ◌∷◌, ◌++◌}
-use Prim.Native.Nat.{ℕ, ◌-◌, ◌<◌, ◌≤◌, min}
+use Prim.Native.Nat.{ℕ, ◌+◌, ◌-◌, ◌<◌, ◌≤◌, min}
+use native.Mathlib.Numerals.{add-one}
 use native.Mathlib.Omega.{arith}
 use borrow.Author.Tests.{eqb-true, eqb-false, eq-eqb, ne_eqb}
 use lib.Dec.{eqb}
 use lib.ListN.{length, get_or, take, drop, length-drop, drop_of_length-le}
 use native.Mathlib.Decide.{dec_le}
-use lib.Seq.{drop-cons, take_all}
+use lib.Seq.{drop-cons, drop-drop, take_all}
 use Rattle.ground.proofs.PickLaws.{both_first, both_second}
 use Rattle.ground.specs.Pick.{if}
 use Rattle.text.specs.Begins.{begins}
 use Rattle.std.specs.List.{starts_with}
+
+-- the first byte is there: the rest decides
+cons_there : (b : ℕ) (bytes text : List ℕ) → begins (b ∷ []) text ≡ true → begins (b ∷ bytes) text ≡ begins bytes (drop 1 text)
+unfolding begins
+cons_there b bytes [] e = cc
+cons_there b bytes (x ∷ text) e = rw (both_first (eqb x b) true e)
+
+-- the first byte is not there
+cons_missing : (b : ℕ) (bytes text : List ℕ) → begins (b ∷ []) text ≡ false → begins (b ∷ bytes) text ≡ false
+unfolding begins
+cons_missing b bytes [] e = refl
+cons_missing b bytes (x ∷ text) e = go (eqb x b) e
+  where
+    go : (t : Bool) → if t true false ≡ false → if t (begins bytes text) false ≡ false
+    go true e = cc
+    go false e = refl
+
+drop_one : (text : List ℕ) (at : ℕ) → drop 1 (drop at text) ≡ drop (at + 1) text
+drop_one text at = drop-drop 1 at text
 
 -- a byte that is there stands within the text
 pub there_within : (b : ℕ) (text : List ℕ) (at : ℕ) → begins (b ∷ []) (drop at text) ≡ true → at < length text
@@ -22,6 +42,15 @@ there_within b text at e = go (drop at text) refl e
     go : (l : List ℕ) → drop at text ≡ l → begins (b ∷ []) l ≡ true → at < length text
     go [] d e = let z : ◌≡◌ {A = ℕ} 0 1 = cc in omega arith
     go (x ∷ l) d e = omega (arith, length-drop at text, ap length d)
+
+-- a turn of the comparing loop
+pub turn : (bytes text : List ℕ) (i at : ℕ) → i < length bytes → begins (get_or bytes i 0 ∷ []) (drop at text) ≡ true
+    → begins (drop i bytes) (drop at text) ≡ begins (drop (i + 1) bytes) (drop (at + 1) text)
+turn bytes text i at h e = rw (add-one i, drop-cons bytes i 0 h) (cons_there _ _ _ e ∙ rw drop_one)
+
+pub turn_last : (bytes text : List ℕ) (i at : ℕ) → i < length bytes → begins (get_or bytes i 0 ∷ []) (drop at text) ≡ false
+    → begins (drop i bytes) (drop at text) ≡ false
+turn_last bytes text i at h e = rw (drop-cons bytes i 0 h) (cons_missing _ _ _ e)
 
 -- a text that begins with the bytes is the bytes and what is left
 pub begins_split : (bytes text : List ℕ) → begins bytes text ≡ true → text ≡ bytes ++ drop (length bytes) text

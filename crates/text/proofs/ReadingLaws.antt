@@ -8,7 +8,7 @@ use native.Mathlib.Decide.{dec_le, dec_lt}
 use native.Mathlib.Nat.{add-zero}
 use native.Mathlib.Numerals.{add-one}
 use native.Mathlib.Omega.{arith}
-use borrow.Author.Tests.{eqb-true, eqb-false, eq-eqb, leb-true, le-leb}
+use borrow.Author.Tests.{eqb-true, eqb-false, eq-eqb, leb-true, le-leb, lt-leb}
 use lib.Dec.{leb, eqb}
 use lib.ListN.{length, get_or, drop, length-drop, drop_of_length-le}
 use lib.Seq.{drop-cons, drop-drop, get_or-drop}
@@ -169,6 +169,27 @@ left_turn {text} {limit = limit} {value = value} {next = next} k h e l =
     }
 
 -- ---- the number at a place
+
+pub number_none : (text : List ℕ) (at limit : ℕ) → is_decimal (digits_in (drop at text)) ≡ false → number_at text at limit ≡ None
+unfolding number_at
+number_none text at limit e = rw e
+
+module _ {text : List ℕ} {at limit value next : ℕ} (k : DigitsRead text at limit (record { value = value; next = next }))
+    (e : is_decimal (digits_in (drop at text)) ≡ true) where
+  pub number_above : limit < value → number_at text at limit ≡ None
+  unfolding number_at
+  number_above h =
+      let v : ℕ = value_of (digits_in (drop at text)) in
+      let above : leb v limit ≡ false = lt-leb v limit (omega (arith, k.number)) in
+      rw (e, above)
+
+  pub number_found : value ≤ limit → number_at text at limit ≡ Some (record { value = value; next = next })
+  unfolding number_at
+  number_found h =
+      let v : ℕ = value_of (digits_in (drop at text)) in
+      let is : v ≡ value = omega (arith, k.number) in
+      let within : leb v limit ≡ true = le-leb v limit (omega arith) in
+      rw (e, within, is, ← k.place)
 
 -- the digits that a text begins with, and what stands behind them, are the text
 digits_split : (text : List ℕ) → text ≡ digits_in text ++ drop (length (digits_in text)) text

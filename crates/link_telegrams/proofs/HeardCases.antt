@@ -22,11 +22,12 @@ use Rattle.codes.specs.declared.response.ResponseState.{ResponseState}
 use Rattle.codes.specs.declared.response.ResponseState.TheVariants.{Slave}
 use Rattle.codes.specs.declared.response.ResponseStatus.{ResponseStatus}
 use Rattle.codes.specs.declared.response.ResponseStatus.TheVariants as status
+use Rattle.ground.proofs.Injective.{zero_one}
 use Rattle.ground.proofs.PickLaws.{picked}
 use Rattle.ground.specs.declared.address.Address.{Address}
 use Rattle.ground.specs.declared.part.Part.{Part}
 use Rattle.link_rules.specs.Rules.{longest}
-use Rattle.link_telegrams.specs.Heard.{data_from, request_in, request_from, slave_of, reply_from}
+use Rattle.link_telegrams.specs.Heard.{data_from, srd_of, request_in, request_from, slave_of, reply_from}
 use Rattle.link_telegrams.specs.Leaves.{decoded_as, asked_of, is_request}
 use Rattle.link_telegrams.specs.declared.headers.Bit.TheVariants as bit
 use Rattle.link_telegrams.specs.declared.heard.ReplyHeard.{ReplyHeard}
@@ -46,13 +47,35 @@ module _ (sa : Address) (pdu : Part) (code : ℕ) where
   abbrev request : Option (Address × RequestHeard)
   request = request_in (decoded_as sa pdu (function_code_of code))
 
-  pub first_empty : code ≡ 0x6C → pdu.len ≡ 0 → asked_of request ≡ request_heard.Opening
-  unfolding function_code_of request_type_of
-  first_empty e l = rw (e, eq-eqb _ _ l)
+  module _ (first : code ≡ 0x6C) where
+    pub first_empty : pdu.len ≡ 0 → request ≡ Some (sa, request_heard.Opening)
+    unfolding function_code_of request_type_of
+    first_empty e = rw (first, eq-eqb _ _ e)
 
-  pub first_with_bytes : code ≡ 0x6C → (pdu.len ≡ 0 → ⊥) → asked_of request ≡ request_heard.Nothing
+    pub first_with_bytes : (pdu.len ≡ 0 → ⊥) → request ≡ Some (sa, request_heard.Nothing)
+    unfolding function_code_of request_type_of
+    first_with_bytes e = rw (first, ne_eqb _ _ e)
+
+  pub high : code ≡ 0x7C → request ≡ Some (sa, request_heard.Order bit.High pdu)
   unfolding function_code_of request_type_of
-  first_with_bytes e l = rw (e, ne_eqb _ _ l)
+  high e = rw e
+
+  pub low : code ≡ 0x5C → request ≡ Some (sa, request_heard.Order bit.Low pdu)
+  unfolding function_code_of request_type_of
+  low e = rw e
+
+  pub inactive : code ≡ 0x4C → request ≡ Some (sa, request_heard.Nothing)
+  unfolding function_code_of request_type_of
+  inactive e = rw e
+
+  -- the same of what is asked alone
+  pub empty_asks : code ≡ 0x6C → pdu.len ≡ 0 → asked_of request ≡ request_heard.Opening
+  unfolding function_code_of request_type_of
+  empty_asks e l = rw (e, eq-eqb _ _ l)
+
+  pub with_bytes_asks : code ≡ 0x6C → (pdu.len ≡ 0 → ⊥) → asked_of request ≡ request_heard.Nothing
+  unfolding function_code_of request_type_of
+  with_bytes_asks e l = rw (e, ne_eqb _ _ l)
 
   pub high_asks : code ≡ 0x7C → asked_of request ≡ request_heard.Order bit.High pdu
   unfolding function_code_of request_type_of
@@ -70,6 +93,9 @@ module _ (sa : Address) (pdu : Part) (code : ℕ) where
   pub first_is : code ≡ 0x6C → is_request request ≡ true
   unfolding function_code_of request_type_of
   first_is e = rw e
+
+  pub first_asks : code ≡ 0x6C → is_request request ≡ true
+  first_asks = first_is
 
   pub high_is : code ≡ 0x7C → is_request request ≡ true
   unfolding function_code_of request_type_of
@@ -103,6 +129,9 @@ module _ (sa : Address) (pdu : Part) (code : ℕ) where
         by_code (Some (Response state s)) e = refl
         by_code None e = refl
 
+        pub another_code : request ≡ None
+        another_code = by_code (function_code_of code) refl
+
         pub another_is : is_request request ≡ false
         another_is = rw (by_code (function_code_of code) refl)
 
@@ -118,15 +147,53 @@ module _ (sa : Address) (pdu : Part) (code : ℕ) where
           by_inactive false e = another_asks (eqb-false _ _ e)
 
 -- What the code's byte of a request says, case by case: what it asks, and whether it is one of SRD low.
-pub ruleset asked_cases = (first_empty, first_with_bytes, high_asks, low_asks, nothing_asked)
+pub ruleset asked_cases = (empty_asks, with_bytes_asks, high_asks, low_asks, nothing_asked)
 
 pub ruleset request_cases = (first_is, high_is, low_is, inactive_is, another_is)
 
--- Another station's request asks nothing.
-pub another_asked :
-    (peer sa : Address) (request : RequestHeard) → (sa.0 ≡ peer.0 → ⊥)
-    → request_from peer (Some (sa, request)) ≡ request_heard.Nothing
-another_asked peer sa request e = rw (ne_eqb _ _ e)
+pub none_asked : (y : Option (Address × RequestHeard)) → is_request y ≡ false → y ≡ None
+none_asked (Some (sa, request)) e = absurd (zero_one cc)
+none_asked None e = refl
+
+-- The peer's request, and another station's.
+module _ (peer sa : Address) (request : RequestHeard) where
+  pub peer_asked : sa.0 ≡ peer.0 → request_from peer (Some (sa, request)) ≡ request
+  peer_asked e = rw (eq-eqb _ _ e)
+
+  pub another_asked : (sa.0 ≡ peer.0 → ⊥) → request_from peer (Some (sa, request)) ≡ request_heard.Nothing
+  another_asked e = rw (ne_eqb _ _ e)
+
+-- The request in a telegram has the telegram's sender.
+module _ (sa : Address) (pdu : Part) where
+  abbrev Sent : Option (Address × RequestHeard) → Type 0
+  Sent y = is_request y ≡ true → y ≡ Some (sa, asked_of y)
+
+  pub sender_asked : (x : Option FunctionCode) → Sent (request_in (decoded_as sa pdu x))
+  sender_asked (Some (Request f req)) e =
+      picked Sent (eqb (request_number req) (request_number SrdLow)) (λ t q. refl) (λ t q. absurd (zero_one cc)) e
+  sender_asked (Some (Response state s)) e = absurd (zero_one cc)
+  sender_asked None e = absurd (zero_one cc)
+
+  module _ (peer : Address) where
+    pub sent_by_peer :
+        sa.0 ≡ peer.0 → (x : Option FunctionCode)
+        → request_from peer (request_in (decoded_as sa pdu x)) ≡ asked_of (request_in (decoded_as sa pdu x))
+    sent_by_peer e (Some (Request f req)) =
+        picked (λ y. request_from peer y ≡ asked_of y) (eqb (request_number req) (request_number SrdLow))
+        (λ t. peer_asked peer sa (srd_of f pdu) e)
+        (λ t. refl)
+    sent_by_peer e (Some (Response state s)) = refl
+    sent_by_peer e None = refl
+
+    pub sent_by_another :
+        (sa.0 ≡ peer.0 → ⊥) → (x : Option FunctionCode)
+        → request_from peer (request_in (decoded_as sa pdu x)) ≡ request_heard.Nothing
+    sent_by_another d (Some (Request f req)) =
+        picked (λ y. request_from peer y ≡ request_heard.Nothing) (eqb (request_number req) (request_number SrdLow))
+        (λ t. another_asked peer sa (srd_of f pdu) d)
+        (λ t. refl)
+    sent_by_another d (Some (Response state s)) = refl
+    sent_by_another d None = refl
 
 -- ---- a response to the station, by its code's byte
 

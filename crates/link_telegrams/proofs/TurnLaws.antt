@@ -1,8 +1,10 @@
--- Laws of a call of an end, whichever end it is: `short_of_room`, `with_room_lem`, `with_lent_lem`, `said_back`, `Keeps`, `Stays`.
+-- Laws of a call of an end, whichever end it is: `short_of_room`, `with_room_lem`, `short_of_lent`, `with_lent_lem`, `writes`, `said_back`,
+-- `Keeps`, `Stays`.
 use Prim.Native.Nat.{ℕ, ◌<◌, ◌≤◌}
 use mathlib.Core.Bool.{Bool, true, false}
 use mathlib.Core.List.{List}
-use mathlib.Core.Path.{◌≡◌, refl}
+use mathlib.Core.Path.{◌≡◌, refl, ap}
+use native.Mathlib.Omega.{arith}
 use lib.Dec.{ltb}
 use lib.ListN.{length}
 use borrow.Author.Tests.{lt-ltb, le-ltb}
@@ -28,8 +30,21 @@ module _ {End Tale : Type 0} (end : End) (buf : List ℕ) (turn : Turn End Tale)
 
 -- the bytes lent for the order or the held reply
 module _ {End Tale : Type 0} (lent : List ℕ) (end : End) (buf : List ℕ) (turn : Turn End Tale) where
+  pub short_of_lent : length lent < longest → with_lent lent end buf turn ≡ refusing 10 end buf
+  short_of_lent h = rw (lt-ltb _ _ h)
+
   pub with_lent_lem : longest ≤ length lent → with_lent lent end buf turn ≡ turn
   with_lent_lem h = rw (le-ltb _ _ h)
+
+-- ---- a telegram that is written
+
+-- by what the writer answered, and by the buffer that it left
+pub writes :
+    {End Tale : Type 0} (given next : End) (h made : DataTelegramHeader) (pdu buf after : List ℕ)
+    (answer : OrRefused TelegramTxResponse) (turn : Turn End Tale)
+    → made ≡ h → answer ≡ write_of made pdu (length buf) → after ≡ buffer_of made pdu buf → turn ≡ wrote answer given next after
+    → turn ≡ writes_of given next h pdu buf
+writes given next h made pdu buf after answer turn e a b t = rw (t, a, b, e)
 
 -- ---- what is said, led back to an answer
 
@@ -71,7 +86,20 @@ module _ {End Tale : Type 0} (P : End → Type 0) where
 pub record Stays {End Tale : Type 0} (given : End) (turn : Turn End Tale) : Type 0 where
   pub same : (n : ℕ) → turn.said ≡ refused n → turn.end ≡ given
 
+abbrev is_refused : {Tale : Type 0} → Said Tale → ℕ
+is_refused (sent m) = 0
+is_refused (tells tale) = 0
+is_refused nothing = 0
+is_refused (refused m) = 1
+
+no_refusal : {Tale : Type 0} (said : Said Tale) (n : ℕ) → is_refused said ≡ 0 → said ≡ refused n → ⊥
+no_refusal said n z e = let one : is_refused said ≡ 1 = ap is_refused e in omega (arith, z, one)
+
 module _ {End Tale : Type 0} (given : End) where
+  -- a call that is not refused may leave another record
+  pub taken_stays : (turn : Turn End Tale) → is_refused turn.said ≡ 0 → Stays given turn
+  taken_stays turn z = record { same = λ n e. absurd (no_refusal turn.said n z e) }
+
   pub same_stays : (said : Said Tale) (buf : List ℕ) → Stays given (saying said given buf)
   same_stays said buf = record { same = λ n e. refl }
 
@@ -80,7 +108,7 @@ module _ {End Tale : Type 0} (given : End) where
   picked_stays false x y h k = k
 
   wrote_stays : (o : OrRefused TelegramTxResponse) (next : End) (buf : List ℕ) → Stays {Tale = Tale} given (wrote o given next buf)
-  wrote_stays (refusals.gives response) next buf = record { same = λ n e. absurd cc }
+  wrote_stays (refusals.gives response) next buf = taken_stays _ refl
   wrote_stays (refusals.refused n) next buf = same_stays _ buf
 
   pub writes_stays : (next : End) (d : DataTelegramHeader) (pdu buf : List ℕ) → Stays {Tale = Tale} given (writes_of given next d pdu buf)

@@ -1,6 +1,6 @@
 -- Laws of the listing: the lines from a place on, item by item, `lines_telegram` and `lines_last`; what its two loops keep; and the room that is
 -- always enough, `listing_room_lem`.
-use mathlib.Core.List.{List, ◌++◌, append_assoc}
+use mathlib.Core.List.{List, [], ◌++◌, append_assoc}
 use mathlib.Core.Path.{◌≡◌, refl, sym, ap, ◌∙◌}
 use Prim.Native.Nat.{ℕ, zero, suc, ◌+◌, ◌-◌, ◌*◌, ◌≤◌}
 use native.Mathlib.Omega.{arith}
@@ -15,7 +15,7 @@ use Rattle.telegram_strict.specs.Strict.{read_in}
 use Rattle.telegram_strict.specs.declared.strict.Mode.{Mode}
 use Rattle.text.specs.Decimal.{decimal_of}
 use Rattle.text.specs.Placed.{Placed}
-use Rattle.text.proofs.PlacedLaws.{then}
+use Rattle.text.proofs.PlacedLaws.{none, then}
 use Rattle.listing_lines.specs.declared.line.End.{End}
 use Rattle.listing_lines.specs.declared.line.Line.{Line}
 use Rattle.listing_lines.specs.declared.line.Item.{Item}
@@ -68,6 +68,9 @@ pub record Progress (mode : Mode) (b₀ : List ℕ) (to : ℕ) (input b : List �
   pub left : lines_at mode input 0 ≡ done ++ lines_at mode input at
   pub within : at ≤ length input
 
+pub starts : {mode : Mode} {b input : List ℕ} {to : ℕ} → to ≤ length b + 1 → Progress mode b to input b to 0
+starts h = record { done = []; placed = none (omega arith); left = refl; within = omega arith }
+
 -- a telegram that is listed at a place ends within the input
 pub ends_within : (mode : Mode) (input : List ℕ) (at : ℕ) {l : Line} → at ≤ length input → item_of mode at (drop at input) ≡ Telegram l
     → (1 ≤ l.len) × (at + l.len ≤ length input)
@@ -99,6 +102,9 @@ module _ {mode : Mode} {b₀ input b b' : List ℕ} {to next next' at : ℕ} {x 
 pub record Counted (mode : Mode) (input : List ℕ) (len at : ℕ) : Type 0 where
   pub left : len + length (lines_at mode input at) ≡ length (lines_at mode input 0)
   pub within : at ≤ length input
+
+pub counts : {mode : Mode} {input : List ℕ} → Counted mode input 0 0
+counts = record { left = omega arith; within = omega arith }
 
 module _ {mode : Mode} {input : List ℕ} {len at n : ℕ} {x : Item}
     (p : Counted mode input len at) (is : x ≡ item_of mode at (drop at input)) (long : n ≡ length (item_text x)) where

@@ -1,7 +1,7 @@
 -- Laws of a call on a head and a lent order: what is shown of the leaves' turns, and the calls by what the code asks of a phase. Read
 -- `wrote_shown`, `wrote_same`, `submit_begins`, `restart_gives_up`.
 use Rattle.std.proofs.Common.{Err, Ok, Result}
-use Prim.Native.Nat.{ℕ, ◌≤◌}
+use Prim.Native.Nat.{ℕ, ◌≤◌, ◌<◌}
 use mathlib.Core.Bool.{Bool, true, false}
 use mathlib.Core.List.{List, []}
 use mathlib.Core.Path.{◌≡◌, refl, ap, sym, ◌∙◌}
@@ -21,14 +21,14 @@ use Rattle.initiator.specs.declared.state.Initiator.{Initiator}
 use Rattle.initiator.specs.declared.state.Phase.{Phase}
 use Rattle.initiator.specs.declared.state.Phase.TheVariants.{Closed, Ready, Opening, Order}
 use Rattle.link_rules.specs.Rules.{longest, room}
-use Rattle.link_telegrams.proofs.TurnLaws.{with_lent_lem}
+use Rattle.link_telegrams.proofs.TurnLaws.{short_of_lent, with_lent_lem}
 use Rattle.link_telegrams.specs.Headers.{order_header}
-use Rattle.link_telegrams.specs.Turns.{refusing, wrote, writes_of}
+use Rattle.link_telegrams.specs.Turns.{Turn, refusing, wrote, writes_of, with_lent}
 use Rattle.telegram_tx.specs.Writing.{shown_writing}
 use Rattle.ground.specs.declared.refusal.Refusal.{Refusal}
 use Rattle.telegram_tx.specs.declared.tx.TelegramTxResponse.{TelegramTxResponse}
 
--- Where the lent bytes have room for an order, a call is that of the record which both parts make.
+-- Where the lent bytes have room for an order, a call is that of the record which both parts make; where they have not, it is refused.
 module _ (head : InitiatorHead) (kept : List ℕ) where
   pub submit_lent : (q buf : List ℕ) → longest ≤ length kept → submit_on head kept q buf ≡ submit_of (whole_of head kept) q buf
   submit_lent q buf h = with_lent_lem kept (whole_of head kept) buf (submit_of (whole_of head kept) q buf) h
@@ -38,6 +38,9 @@ module _ (head : InitiatorHead) (kept : List ℕ) where
 
   pub hear_lent : (s buf : List ℕ) → longest ≤ length kept → hear_on head kept s buf ≡ hear_of (whole_of head kept) s buf
   hear_lent s buf h = with_lent_lem kept (whole_of head kept) buf (hear_of (whole_of head kept) s buf) h
+
+  pub few_lent : (buf : List ℕ) (turn : Turn Initiator Outcome) → length kept < longest → with_lent kept (whole_of head kept) buf turn ≡ refusing 10 (whole_of head kept) buf
+  few_lent buf turn h = short_of_lent kept (whole_of head kept) buf turn h
 
 -- The record that goes on in another phase, with an order of so many bytes.
 abbrev whole_in : InitiatorHead → Phase → ℕ → List ℕ → Initiator
@@ -67,6 +70,12 @@ wrote_same head phase len kept pdu before after t w =
     ap (λ k. shown_on t head k after) (sym (same_kept (was_sent t.answer) kept)) ∙ wrote_shown head phase len kept kept pdu before after t w
 
 -- ---- a submission, by whether an order is pending
+
+pub first_len_fits : (p : Phase) (n : ℕ) → first_len p n ≤ n
+first_len_fits Closed n = omega arith
+first_len_fits (Ready b) n = omega arith
+first_len_fits (Opening k) n = omega arith
+first_len_fits (Order b k) n = omega arith
 
 apart : ◌≡◌ {A = Bool} false true → ⊥
 apart e = let z : ◌≡◌ {A = ℕ} 0 1 = ap (λ t. if t 1 0) e in omega (arith, z)

@@ -1,14 +1,15 @@
--- Laws of the maker: a closed record where the facts hold, `made_closed`; and `not_made_refuses` of the record beside a refusal.
+-- Laws of the maker, one for each case: 18 where the addresses are wrong, 19 where the tries are, else a closed record. Read `made_closed`,
+-- and `not_made_refuses` of the record beside a refusal.
 use Prim.Native.Nat.{ℕ, ◌≤◌}
 use lib.ListN.{length}
-use mathlib.Core.Bool.{false}
+use mathlib.Core.Bool.{true, false}
 use mathlib.Core.List.{List}
 use mathlib.Core.Path.{◌≡◌, refl, ap}
 use Rattle.initiator.proofs.CallLaws.{submit_opens}
 use Rattle.initiator.specs.Calls.{submit_of, wrong_order}
 use Rattle.initiator.specs.Records.{closed_of, made_of}
 use Rattle.link_rules.proofs.RuleLaws.{linked_addresses, permitted_tries}
-use Rattle.link_rules.specs.Rules.{Linked, Permitted, no_link, room}
+use Rattle.link_rules.specs.Rules.{wrong_addresses, wrong_tries, Linked, Permitted, no_link, room}
 use Rattle.link_rules.specs.declared.link.Link.{Link}
 use Rattle.link_telegrams.specs.Headers.{opening_header}
 use Rattle.link_telegrams.specs.Turns.{Made, refusing}
@@ -18,7 +19,21 @@ use Rattle.initiator.specs.declared.state.Initiator.{Initiator}
 abbrev pub not_made : ℕ → Made Initiator
 not_made n = record { number = n; end = closed_of no_link 1 }
 
--- made where the addresses and the tries are permitted
+module _ (link : Link) (tries : ℕ) where
+  pub addresses_refused : wrong_addresses link ≡ true → made_of link tries ≡ not_made 18
+  unfolding made_of
+  addresses_refused e = rw e
+
+  module _ (a : wrong_addresses link ≡ false) where
+    pub tries_refused : wrong_tries tries ≡ true → made_of link tries ≡ not_made 19
+    unfolding made_of
+    tries_refused e = rw (a, e)
+
+    pub not_refused : wrong_tries tries ≡ false → made_of link tries ≡ record { number = 0; end = closed_of link tries }
+    unfolding made_of
+    not_refused e = rw (a, e)
+
+-- the last by the facts: made where the addresses and the tries are permitted
 module _ (link : Link) (tries : ℕ) (l : Linked link) (p : Permitted tries) where
   pub made : made_of link tries ≡ record { number = 0; end = closed_of link tries }
   unfolding made_of

@@ -2,7 +2,7 @@
 ghost use Rattle.std.specs.Prelude.{◌≡◌};
 ghost use Rattle.diagnostics.specs.Store.{available_of, fill_of, walked_of};
 
-use ground::Returned;
+use ground::{Returned, copy_to_front};
 
 // Container for extended diagnostics data: how many bytes at the front of the store that the caller lends are
 // diagnostics. Any number is answered; one above the store's length counts as the store's.
@@ -45,7 +45,7 @@ impl ExtendedDiagnostics {
     // The store filled with what a peripheral reported, where there is a store and the data fit it: whether it took the data, and the
     // container as it then is.
     // (A bool is what profirust's `fill` answers.)
-    #[tactic(auto, unfolding(crate::specs::Store::fill_of))]
+    #[tactic(auto, using(ground::proofs::FrontLaws::copied_fits), unfolding(crate::specs::Store::fill_of))]
     pub fn fill(self, buffer: &mut [u8], buf: &[u8]) -> Returned<bool, ExtendedDiagnostics>
         ensures { record { answer = result.answer; walked = result.after.length; store = buffer.new } ≡ fill_of buffer.old self.length buf.now }
     {
@@ -56,7 +56,7 @@ impl ExtendedDiagnostics {
                 after: self,
             };
         }
-        buffer[..buf.len()].copy_from_slice(buf);
+        copy_to_front(buf, buffer);
         Returned {
             answer: true,
             after: ExtendedDiagnostics { length: buf.len() },

@@ -1,11 +1,13 @@
 -- Laws of the bytes of a record: a head of numbers, the last of which is a length, then 246 bytes.
-use mathlib.Core.Path.{◌≡◌, refl}
+use mathlib.Core.Path.{◌≡◌, refl, sym, ◌∙◌}
 use mathlib.Core.List.{List, [], ◌∷◌, ◌++◌, append-nil}
-use Prim.Native.Nat.{ℕ, ◌+◌, ◌≤◌}
+use Prim.Native.Nat.{ℕ, ◌+◌, ◌-◌, ◌≤◌}
 use native.Mathlib.Omega.{arith}
-use lib.ListN.{length, take, drop, length-drop, drop_of_length-le}
-use lib.Seq.{take_all, drop-append_seam, length-take-le}
+use lib.ListN.{length, take, drop, length-append, length-drop, drop_of_length-le}
+use lib.Seq.{drop-length, take_all, take-append_seam, drop-append_seam, length-take-le}
 use borrow.Author.Tests.{lt-ltb}
+use Rattle.ground.specs.Front.{copied_to}
+use Rattle.ground.proofs.FrontLaws.{copied_fits}
 use Rattle.link_rules.specs.Rules.{longest}
 use Rattle.exports_link.specs.Bytes.{length_byte}
 use Rattle.exports_link.specs.Leaves.{initiator_head_of}
@@ -14,6 +16,24 @@ use Rattle.exports_link.specs.Leaves.{initiator_head_of}
 pub length_again : (n : ℕ) → n ≤ longest → length_byte n ≡ n
 unfolding length_byte
 length_again n h = rw (lt-ltb n 256 (omega arith))
+
+-- Bytes that are as many as the buffer's take all of it.
+pub copied_whole : (buffer bytes : List ℕ) → length bytes ≡ length buffer → copied_to buffer bytes ≡ bytes
+copied_whole buffer bytes e =
+    copied_fits buffer bytes (omega arith) ∙ rw (e, drop-length buffer, append-nil bytes)
+
+joined_over : (h d q part : List ℕ) → length d ≡ length q → part ≡ copied_to (take (length (h ++ d) - length h) (drop (length h) (h ++ d))) q → take (length h) (h ++ d) ++ (part ++ drop (length (h ++ d) - length h) (drop (length h) (h ++ d))) ≡ h ++ q
+joined_over h d q part e p =
+    let short : length d ≤ length (h ++ d) - length h = rw length-append (omega arith) in
+    let same : part ≡ q = p ∙ rw (drop-append_seam h d, take_all (length (h ++ d) - length h) d short) (copied_whole d q (sym e)) in
+    rw (take-append_seam h d, drop-append_seam h d, drop_of_length-le d {i = length (h ++ d) - length h} short, same, append-nil q)
+
+-- A head copied to the front, and the rest behind it, fill the bytes.
+pub joined : (s h q s₁ part : List ℕ) → length h + length q ≡ length s → s₁ ≡ copied_to s h → part ≡ copied_to (take (length s₁ - length h) (drop (length h) s₁)) q → take (length h) s₁ ++ (part ++ drop (length s₁ - length h) (drop (length h) s₁)) ≡ h ++ q
+joined s h q s₁ part e f p =
+    let g : s₁ ≡ h ++ drop (length h) s = f ∙ copied_fits s h (omega arith) in
+    let long : length (drop (length h) s) ≡ length q = rw length-drop (omega arith) in
+    rw g (joined_over h (drop (length h) s) q part long (rw g at p))
 
 -- The first six bytes are the same, whatever stands behind them.
 pub same_six : (s body : List ℕ) → 6 ≤ length s → initiator_head_of (take 6 s ++ body) ≡ initiator_head_of s

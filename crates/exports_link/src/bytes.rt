@@ -3,7 +3,7 @@ ghost use Rattle.std.specs.Prelude.{◌≡◌, ◌++◌, ◌+◌, length};
 ghost use Rattle.exports_link.specs.Bytes.{length_byte};
 ghost use Rattle.link_rules.specs.Rules.{link_of};
 
-use ground::Address;
+use ground::{Address, copy_to_front};
 use link_rules::Link;
 
 pub(crate) fn link_of(own: u8, peer: u8) -> Link
@@ -23,10 +23,11 @@ pub(crate) fn length_byte(len: usize) -> u8
 }
 
 // Fills the bytes of a record: nothing else of it is copied.
+#[tactic(auto, using(crate::proofs::ByteLaws::joined))]
 pub(crate) fn store(head: &[u8], last: &[u8], state: &mut [u8])
     requires { length head.now + length last.now ≡ length state.old }
     ensures { state.new ≡ head.now ++ last.now }
 {
-    state[..head.len()].copy_from_slice(head);
-    state[head.len()..].copy_from_slice(last);
+    copy_to_front(head, state);
+    copy_to_front(last, &mut state[head.len()..]);
 }

@@ -20,6 +20,7 @@ fn put_joined(lines: &[u8], out: &mut Out) {
         return;
     };
     for b in joined {
+        out.pause();
         out.raw(if *b == b'\n' {
             b"|"
         } else {

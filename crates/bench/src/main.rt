@@ -63,6 +63,7 @@ fn play_line(streams: &Streams, line: &[u8], number: usize, ends: &mut Ends, out
     if command.is_empty() || command.starts_with(b"#") {
         return;
     }
+    out.pause();
     let answered = if LINE < line.len() {
         Err(Fault::LineTooLong)
     } else {

@@ -36,6 +36,7 @@ fn put_fillings(mut words: Words, store: &mut [u8], out: &mut Out) -> Result<(),
     let mut buffer = [0; BYTES];
     while !words.is_end() {
         let filled = diag.fill(store, words.bytes(&mut buffer)?);
+        out.pause();
         out.text(if filled.answer { "true" } else { "false" });
         diag = filled.after;
         out.next_number(diag.length);

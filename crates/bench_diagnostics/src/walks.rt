@@ -27,6 +27,7 @@ pub(crate) fn put_walk(diag: ExtendedDiagnostics, store: &[u8], out: &mut Out) {
     let mut iter = diag.iter_diag_blocks();
     loop {
         let step = iter.next(diag, store);
+        out.pause();
         put_step(step, diag, store, out);
         if !matches!(step.answer, Found::Block(_)) || step.after.cursor <= iter.cursor {
             return;

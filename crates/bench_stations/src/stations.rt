@@ -45,6 +45,7 @@ where
 {
     while !words.is_end() {
         let changed = next_op(&mut words)?.applied(ring);
+        out.pause();
         out.bar();
         if let Err(refusal) = changed.answer {
             out.refusal(refusal);

@@ -54,6 +54,7 @@ fn count<F: Fn(&Option<FunctionCode>) -> bool>(is: F) -> usize
 
 fn put_table(out: &mut Out) {
     for b in 0..=255u8 {
+        out.pause();
         out.text("byte=");
         out.hex(&[b]);
         put_code(FunctionCode::from_byte(b), out);

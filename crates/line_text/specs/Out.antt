@@ -1,7 +1,7 @@
 -- What a call leaves that lays text down for an answer, in pieces, one after another. Read `Lays`, one piece, and `Laid`, several; the others
 -- say which. What lies before the place is written to standard output before the place goes back to the front: of what a device gets, nothing is
 -- promised.
-use Rattle.std.specs.Prelude.{◌≡◌, ℕ, Bool, not, List, [], ◌∷◌, drop, ltb, ◌==◌, codes, Option, Some, None, Result, Ok, Err}
+use Rattle.std.specs.Prelude.{◌≡◌, ℕ, Bool, not, List, [], ◌∷◌, drop, ltb, leb, ◌==◌, codes, Option, Some, None, Result, Ok, Err}
 use Rattle.std.specs.List.{list_any}
 use Rattle.ground.specs.Pick.{if}
 use Rattle.ground.specs.Refusals.{number_of}
@@ -10,11 +10,15 @@ use Rattle.text.specs.Decimal.{decimal_of}
 use Rattle.text.specs.Hex.{hex_of}
 use Rattle.text.specs.Placed.{Placed}
 use Rattle.line_text.specs.declared.answers.Out.{Out}
-use Rattle.line_text.specs.declared.answers.TheConstants.{FULL}
+use Rattle.line_text.specs.declared.answers.TheConstants.{ENOUGH, FULL}
 
 -- where the next piece goes: behind what lies there, or at the front where that is more than FULL bytes, which are written out first
 unfoldable pub place_of : Out → ℕ
 place_of o = if (ltb FULL o.to) 0 o.to
+
+-- where it goes behind a pause: likewise, from ENOUGH bytes on
+unfoldable pub paused_place : Out → ℕ
+paused_place o = if (leb ENOUGH o.to) 0 o.to
 
 -- one piece was laid down at its place; the streams are the same
 pub record Lays (before : Out) (piece : List ℕ) (after : Out) : Type 0 where

@@ -6,16 +6,22 @@ ghost use Rattle.std.specs.List.{list_any};
 ghost use Rattle.std.specs.Iterator.{IsFinite, Drains};
 ghost use Rattle.ground.specs.Refusals.{number_of};
 ghost use Rattle.text.specs.Decimal.{decimal_of};
-ghost use Rattle.line_text.specs.Out.{place_of, Lays, Laid, bool_piece, hex_piece, byte_or_dash_pieces, refused_pieces, ok_or_refused_pieces, list_pieces, is_written, touched_pieces};
+ghost use Rattle.line_text.specs.Out.{place_of, paused_place, Lays, Laid, bool_piece, hex_piece, byte_or_dash_pieces, refused_pieces, ok_or_refused_pieces, list_pieces, is_written, touched_pieces};
 
 use crate::bytes::front;
 use crate::printing::{Streams, print};
 use ground::Refusal;
 
-const OUT: usize = 65536;
+// Room for what is laid down up to FULL, and for one piece more, of which none has more than 32,768 bytes.
+const OUT: usize = 82432;
 
-// From here on what was laid down is written out before another piece, of which none has half the buffer's bytes.
-const FULL: usize = 32768;
+// From here on what was laid down is written out at the next pause. There and nowhere else, so that where both streams go to one place a reason on
+// standard error stands behind a whole answer, or a whole part of a long one.
+const ENOUGH: usize = 32768;
+
+// From here on it is written out even before the next piece. No program lays down so much: the longest part of an answer, of `raw` with 4,200 bytes, has
+// 16,817 bytes with its line feed, and a pause leaves less than ENOUGH in front of it.
+const FULL: usize = 49664;
 
 // (Bytes and a place: crate `text` lays into lent bytes.)
 #[derive(Drop)]
@@ -46,6 +52,18 @@ impl<'a> Out<'a> {
     {
         print(self.streams, front(&self.bytes, self.to));
         self.to = 0;
+    }
+
+    // Between answers, and between the parts of a long one.
+    #[tactic(auto, unfolding(crate::specs::Out::paused_place))]
+    pub fn pause(&mut self)
+        ensures streams { self.new.streams ≡ self.old.streams }
+        ensures place { self.new.to ≡ paused_place self.old }
+        ensures bytes { self.new.bytes ≡ self.old.bytes }
+    {
+        if ENOUGH <= self.to {
+            self.flush();
+        }
     }
 
     // Where the next piece goes.

@@ -32,6 +32,7 @@ fn tell<'a>(input: &'a [u8], out: &mut Out) -> &'a [u8] {
 fn put_lines(lines: &[u8], input: &[u8], out: &mut Out) {
     let mut rest = input;
     for line in lines.split_inclusive(|b| *b == b'\n') {
+        out.pause();
         out.raw(line);
         if line.starts_with(b"at=") {
             rest = tell(rest, out);

@@ -8,21 +8,20 @@ mod start;
 mod telegrams;
 
 use crate::telegrams::Capture;
-use std::alloc::AllocError;
 use std::io;
 use std::io::Print;
 
-fn put_segment(capture: &mut Capture) -> Result<(), AllocError> {
-    capture.ring()?;
-    capture.stations()?;
-    capture.parameters()?;
-    capture.rounds(0, 12)?;
-    capture.events()?;
-    capture.rounds(12, 24)
+fn put_segment(capture: &mut Capture) {
+    capture.ring();
+    capture.stations();
+    capture.parameters();
+    capture.rounds(0, 12);
+    capture.events();
+    capture.rounds(12, 24);
 }
 
 fn main(rt: HostRuntime) -> io::Result<()> {
-    let mut capture = Capture::new(rt.alloc());
-    put_segment(&mut capture)?;
+    let mut capture = Capture::new();
+    put_segment(&mut capture);
     rt.stdout().write_all(capture.bytes())
 }

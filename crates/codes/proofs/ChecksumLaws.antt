@@ -17,7 +17,7 @@ unfolding checksum_of
 checksum_byte s = mod-lt (sum_of s) (lit< tt)
 
 -- A sum that was begun at 0 is the checksum.
-summed_from_0 : (s : List ℕ) → (0 + sum_of s) % 256 ≡ checksum_of s
+pub summed_from_0 : (s : List ℕ) → (0 + sum_of s) % 256 ≡ checksum_of s
 unfolding checksum_of
 summed_from_0 s = rw zero-add
 

@@ -21,15 +21,15 @@ use Rattle.telegram_strict.specs.Strict.{past_lengths, length_is_standard, fourt
 -- ---- the start's number, where the tests are decided
 
 module _ (s : List ℕ) where
-  start_short : past_lengths s ≡ true → byte_at s 1 < 4 → start_of s ≡ 24
+  pub start_short : past_lengths s ≡ true → byte_at s 1 < 4 → start_of s ≡ 24
   unfolding start_of
   start_short e h = rw (e, lt-leb _ _ h)
 
-  start_long : past_lengths s ≡ true → 4 ≤ byte_at s 1 → 249 < byte_at s 1 → start_of s ≡ 24
+  pub start_long : past_lengths s ≡ true → 4 ≤ byte_at s 1 → 249 < byte_at s 1 → start_of s ≡ 24
   unfolding start_of
   start_long e h k = rw (e, le-leb _ _ h, lt-leb _ _ k)
 
-  start_fourth : past_lengths s ≡ true → 4 ≤ byte_at s 1 → byte_at s 1 ≤ 249 → (byte_at s 3 ≡ SD2 → ⊥) → start_of s ≡ 25
+  pub start_fourth : past_lengths s ≡ true → 4 ≤ byte_at s 1 → byte_at s 1 ≤ 249 → (byte_at s 3 ≡ SD2 → ⊥) → start_of s ≡ 25
   unfolding start_of
   start_fourth e h k d = rw (e, le-leb _ _ h, le-leb _ _ k, ne_eqb _ _ d)
 

@@ -87,7 +87,7 @@ module _ (own : ℕ) (l : List Bool) (r : ℕ) (size : length l ≡ 128) where
   next_by None None e f (nobody h gone) = rw (eq-eqb r 255 gone) (sym (next_none own l e f))
   next_by None None e f (nearest j p t is least) = both t (lowest_none 0 l f j (omega arith))
 
-  next_nearest : Nearest (away true (place_above own)) 128 l r → if (eqb r 255) own ((place_above own + r) % 128) ≡ next_of own l
+  pub next_nearest : Nearest (away true (place_above own)) 128 l r → if (eqb r 255) own ((place_above own + r) % 128) ≡ next_of own l
   next_nearest x = next_by _ _ refl refl x
 
   pub next_found : r < 128 → Nearest (away true (place_above own)) 128 l r → (place_above own + r) % 128 ≡ next_of own l
@@ -118,7 +118,7 @@ module _ (own : ℕ) (l : List Bool) (r : ℕ) (size : length l ≡ 128) where
   previous_by None None e f (nobody h gone) = rw (eq-eqb r 255 gone) (sym (previous_none own l e f))
   previous_by None None e f (nearest j p t is least) = both t (highest_none 128 l f j p)
 
-  previous_nearest : Nearest (away false (place_below own)) 128 l r → if (eqb r 255) own (away false (place_below own) r) ≡ previous_of own l
+  pub previous_nearest : Nearest (away false (place_below own)) 128 l r → if (eqb r 255) own (away false (place_below own) r) ≡ previous_of own l
   previous_nearest x = previous_by _ _ refl refl x
 
   pub previous_found : r < 128 → Nearest (away false (place_below own)) 128 l r → away false (place_below own) r ≡ previous_of own l

@@ -14,7 +14,7 @@
  * every content of the bytes that it is lent as document 01 says, the guarded ones and strict reading as is said below.
  *
  * Stack that a call took at most, in bytes, as measured: the station list 400, the guarded link 193, the plain link 193, settings
- * 104, reading 89, writing 56, diagnostics 48 (docs/SPEED.md, its first part). A named form takes up to 112 more, by gcc 12.2 with -O2.
+ * 104, reading 89, writing 56, diagnostics 40 (docs/SPEED.md, its first part). A named form takes up to 112 more, by gcc 12.2 with -O2.
  *
  * Threads: any call from any number of threads at once, but a state that a call writes is lent to one call at a time: one lock for
  * each record, or one thread.

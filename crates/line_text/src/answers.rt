@@ -20,7 +20,7 @@ const OUT: usize = 82432;
 const ENOUGH: usize = 32768;
 
 // From here on it is written out even before the next piece. No program lays down so much: the longest part of an answer, of `raw` with 4,200 bytes, has
-// 16,817 bytes with its line feed, and a pause leaves less than ENOUGH in front of it.
+// 16,808 bytes with its line feed, and a pause leaves less than ENOUGH in front of it.
 const FULL: usize = 49664;
 
 // (Bytes and a place: crate `text` lays into lent bytes.)
